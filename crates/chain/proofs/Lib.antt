@@ -1,0 +1,12 @@
+pub mod Rings
+pub mod Selects
+pub mod Division
+pub mod Shifting
+pub mod Checks
+pub mod Scrambles
+pub mod Tapping
+pub mod Adding
+pub mod Streams
+pub mod Codes
+pub mod TailBites
+pub mod CodeFigures

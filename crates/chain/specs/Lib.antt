@@ -1,0 +1,4 @@
+pub mod Selecting
+pub mod Checking
+pub mod Coding
+pub mod Scrambling

@@ -1,0 +1,159 @@
+// Takes a message through a chain of stages and back, and shows what damaged words meet.
+use chain::check_bits::CheckBits;
+use chain::check_bits::CheckBitsStage;
+use chain::scrambler::Scrambler;
+use chain::scrambler::ScramblerStage;
+use chain::selection::Selection;
+use chain::selection::SelectionStage;
+use packing::Hex;
+use packing::HexDisplay;
+use packing::unpack;
+use stage::fault::StageFault;
+use stage::pair::Pair;
+use stage::pair::PairStage;
+use stage::setting::MOST_BITS;
+use stage::setting::Setting;
+use stage::stages::Stage;
+use std::error::AnyError;
+
+fn main(rt: LibcRuntime) -> Result<(), AnyError> {
+    rt.report(run(&rt))
+}
+
+fn run(rt: &LibcRuntime) -> Result<(), AnyError> {
+    let message = b"123456789";
+    let n = 8 * message.len();
+    let setting = Setting {
+        output: 320,
+        seed: 25388,
+    };
+    let mut work = vec![in rt.alloc(); 0u8; MOST_BITS]?;
+    let mut side = vec![in rt.alloc(); 0u8; MOST_BITS]?;
+
+    unpack(message, &mut work);
+    println!(
+        rt,
+        "message: \"123456789\", {n} bits {}",
+        Hex {
+            bits: front(&work, n)
+        }
+    )?;
+    show_check_bits(rt, n, setting, &mut work, &mut side)?;
+
+    let chain = Pair::new(CheckBits::new(), Pair::new(Selection {}, Scrambler {}));
+    println!(
+        rt,
+        "chain: check bits, selection, scrambler; E = 320, seed = 25388"
+    )?;
+    unpack(message, &mut work);
+    send(rt, &chain, n, setting, &mut work, &mut side)?;
+    receive(rt, &chain, n, setting, &mut work, &mut side)?;
+
+    for turned in [0usize, 95, 96, 319] {
+        unpack(message, &mut work);
+        let _ = chain.forward(n, setting, &mut work, &mut side);
+        turn(&mut work, turned);
+        println!(rt, "word with bit {turned} turned:")?;
+        receive(rt, &chain, n, setting, &mut work, &mut side)?;
+    }
+    println!(rt, "word with a byte that is no bit:")?;
+    work.fill(2);
+    receive(rt, &chain, n, setting, &mut work, &mut side)?;
+    let short = Setting {
+        output: 95,
+        seed: 25388,
+    };
+    println!(rt, "word of 95 bits, one fewer than block and check bits:")?;
+    receive(rt, &chain, n, short, &mut work, &mut side)
+}
+
+// The check bits alone.
+fn show_check_bits(
+    rt: &LibcRuntime,
+    n: usize,
+    s: Setting,
+    work: &mut [u8],
+    side: &mut [u8],
+) -> Result<(), AnyError> {
+    let _ = CheckBits::new().forward(n, s, work, side);
+    if n <= work.len() && work.len() - n >= 24 {
+        println!(
+            rt,
+            "check bits: {}",
+            Hex {
+                bits: &work[n..n + 24]
+            }
+        )?;
+    }
+    Ok(())
+}
+
+fn send<S: Stage>(
+    rt: &LibcRuntime,
+    chain: &S,
+    n: usize,
+    s: Setting,
+    work: &mut [u8],
+    side: &mut [u8],
+) -> Result<(), AnyError> {
+    match chain.forward(n, s, work, side) {
+        Ok(m) => println!(
+            rt,
+            "sent: {m} bits {}",
+            Hex {
+                bits: front(work, m)
+            }
+        )?,
+        Err(fault) => show_refusal(rt, fault)?,
+    }
+    Ok(())
+}
+
+fn receive<S: Stage>(
+    rt: &LibcRuntime,
+    chain: &S,
+    n: usize,
+    s: Setting,
+    work: &mut [u8],
+    side: &mut [u8],
+) -> Result<(), AnyError> {
+    match chain.back(n, s, work, side) {
+        Ok(m) => println!(
+            rt,
+            "received: {m} bits {}",
+            Hex {
+                bits: front(work, m)
+            }
+        )?,
+        Err(fault) => show_refusal(rt, fault)?,
+    }
+    Ok(())
+}
+
+fn show_refusal(rt: &LibcRuntime, fault: StageFault) -> Result<(), AnyError> {
+    let number = fault.number();
+    println!(rt, "refused {number}: {}", reason(fault))?;
+    Ok(())
+}
+
+fn reason(fault: StageFault) -> &'static str {
+    match fault {
+        StageFault::ShortBuffer => "work or side buffer short",
+        StageFault::BadSetting => "setting out of range",
+        StageFault::NoWord => "no word at this length",
+        StageFault::NotCovering => "the chain does not cover, so words do not tell blocks apart",
+        StageFault::NotBits => "a byte is neither 0 nor 1",
+        StageFault::NoBlock => "no block has this word",
+    }
+}
+
+// The first n of some bits, or all where there are not so many.
+fn front(bits: &[u8], n: usize) -> &[u8] {
+    if n <= bits.len() { &bits[0..n] } else { bits }
+}
+
+fn turn(bits: &mut [u8], k: usize) {
+    if k < bits.len() {
+        bits[k] ^= 1;
+    }
+}
