@@ -21,7 +21,7 @@ use Rattle.stage.proofs.Xors.{xor-append}
 use Rattle.stage.proofs.Binary.{binary-zeros, binary-append, binary-take}
 use Rattle.stage.proofs.Padding.{front-cleared}
 use Rattle.stage.proofs.Framed.{word-plain, ready, ready-back, Ready-back, framed-forward, framed-found, framed-lacking}
-use Rattle.chain.specs.Selecting.{within}
+use Rattle.chain.specs.Ranges.{within}
 use Rattle.chain.specs.Checking.{check-bits, to-bits, checking}
 use Rattle.chain.proofs.Selects.{cond-some, within-parts}
 use Rattle.chain.proofs.Division.{length-check-bits, binary-check-bits, check-bits-xor}
@@ -55,7 +55,7 @@ checking-lawful = record {
       sym (take-at a (check-bits a) n (p .0)) ∙ ap (take n) same ∙ take-at b (check-bits b) n (q .0);
 }
 
-checked-word : (n e seed : ℕ) → 0 < checking .size n e → (b : List ℕ) → Bits n b → word checking n e seed b ≡ b ++ check-bits b
+pub checked-word : (n e seed : ℕ) → 0 < checking .size n e → (b : List ℕ) → Bits n b → word checking n e seed b ≡ b ++ check-bits b
 checked-word n e seed some b h = word-plain checking-lawful n e seed some (ap zeros (sym (size-is n e some))) b h
 
 -- a part written behind the first n, as the code has it

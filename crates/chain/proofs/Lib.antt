@@ -10,3 +10,12 @@ pub mod Streams
 pub mod Codes
 pub mod TailBites
 pub mod CodeFigures
+pub mod Kept
+pub mod Joins
+pub mod Cells
+pub mod Triples
+pub mod Copies
+pub mod Columns
+pub mod Interleaves
+pub mod Chains
+pub mod CheckFigures

@@ -21,7 +21,7 @@ use Rattle.stage.proofs.Padding.{front-cleared}
 use Rattle.stage.proofs.Framed.{ready, ready-back, framed-forward, framed-found}
 use Rattle.gold.specs.Sequence.{gold, sequence}
 use Rattle.gold.proofs.Sequence.{gold-bit, length-sequence, getD-sequence, sequence-more}
-use Rattle.chain.specs.Selecting.{within}
+use Rattle.chain.specs.Ranges.{within}
 use Rattle.chain.specs.Scrambling.{scrambling}
 use Rattle.chain.proofs.Selects.{cond-some, within-parts}
 

@@ -23,7 +23,8 @@ use Rattle.stage.proofs.Binary.{binary-zeros, binary-take}
 use Rattle.stage.proofs.Gathering.{gathered-bits, gathered-xor, gathered-apart}
 use Rattle.stage.proofs.Padding.{front-cleared}
 use Rattle.stage.proofs.Framed.{word-plain, ready, ready-back, Ready-back, framed-forward, framed-found, framed-lacking}
-use Rattle.chain.specs.Selecting.{within, ring, selecting}
+use Rattle.chain.specs.Ranges.{within}
+use Rattle.chain.specs.Selecting.{ring, selecting}
 use Rattle.chain.proofs.Rings.{length-ring, ring-within, ring-every, ring-self, getD-selected, length-selected}
 
 pub cond-some : (t : Bool) (e : ℕ) → 0 < cond t e 0 → t ≡ true

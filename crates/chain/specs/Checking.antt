@@ -8,7 +8,7 @@ use lib.Dec.{eqb, ltb, leb}
 use lib.ListN.{length}
 use Rattle.stage.specs.Bits.{binary, Bits, xor, zeros}
 use Rattle.stage.specs.Meaning.{Meaning}
-use Rattle.chain.specs.Selecting.{within}
+use Rattle.chain.specs.Ranges.{within}
 
 -- the coefficient of D^k in a sum of powers of D
 abbrev pub coefficient : List ℕ → ℕ → ℕ

@@ -8,7 +8,7 @@ use lib.ListN.{length, getD, take, drop}
 use Rattle.std.specs.Iters.{counting}
 use Rattle.stage.specs.Bits.{xor, zeros}
 use Rattle.stage.specs.Meaning.{Meaning}
-use Rattle.chain.specs.Selecting.{within}
+use Rattle.chain.specs.Ranges.{within}
 
 -- the position k - t modulo n, where n * t is a whole number of times round
 abbrev pub behind : ℕ → ℕ → ℕ → ℕ

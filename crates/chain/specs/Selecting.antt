@@ -1,16 +1,13 @@
 -- Selection: the bits of a block are taken in a ring, as many as the setting asks. Assumes nothing.
 use mathlib.Core.List.{List, map}
-use mathlib.Core.Bool.{Bool, _&&_, cond}
+use mathlib.Core.Bool.{_&&_, cond}
 use Prim.Native.Nat.{ℕ, _%_}
-use lib.Dec.{ltb, leb}
+use lib.Dec.{leb}
 use Rattle.std.specs.Iters.{counting}
 use Rattle.stage.specs.Bits.{zeros}
 use Rattle.stage.specs.Gather.{gathered}
 use Rattle.stage.specs.Meaning.{Meaning}
-
--- whether a length is from 1 to 7,680
-abbrev pub within : ℕ → Bool
-within n = ltb 0 n && leb n 7680
+use Rattle.chain.specs.Ranges.{within}
 
 -- bit k of the word is taken from place k modulo n
 abbrev pub ring : ℕ → ℕ → List ℕ

@@ -1,15 +1,15 @@
 // Takes a message through a chain of stages and back, and shows what damaged words meet.
+use chain::built_in::built_in;
 use chain::check_bits::CheckBits;
 use chain::check_bits::CheckBitsStage;
-use chain::scrambler::Scrambler;
+use chain::interleaver::InterleaverStage;
 use chain::scrambler::ScramblerStage;
-use chain::selection::Selection;
 use chain::selection::SelectionStage;
+use chain::tail_biting::TailBitingStage;
 use packing::Hex;
 use packing::HexDisplay;
 use packing::unpack;
 use stage::fault::StageFault;
-use stage::pair::Pair;
 use stage::pair::PairStage;
 use stage::setting::MOST_BITS;
 use stage::setting::Setting;
@@ -40,31 +40,50 @@ fn run(rt: &LibcRuntime) -> Result<(), AnyError> {
     )?;
     show_check_bits(rt, n, setting, &mut work, &mut side)?;
 
-    let chain = Pair::new(CheckBits::new(), Pair::new(Selection {}, Scrambler {}));
+    let chain = built_in();
     println!(
         rt,
-        "chain: check bits, selection, scrambler; E = 320, seed = 25388"
+        "chain: check bits, tail-biting code, interleaver, selection, scrambler"
     )?;
+    println!(rt, "setting: E = 320, seed = 25388")?;
     unpack(message, &mut work);
     send(rt, &chain, n, setting, &mut work, &mut side)?;
     receive(rt, &chain, n, setting, &mut work, &mut side)?;
+    show_damage(rt, &chain, n, setting, message)?;
 
-    for turned in [0usize, 95, 96, 319] {
-        unpack(message, &mut work);
-        let _ = chain.forward(n, setting, &mut work, &mut side);
-        turn(&mut work, turned);
-        println!(rt, "word with bit {turned} turned:")?;
-        receive(rt, &chain, n, setting, &mut work, &mut side)?;
-    }
-    println!(rt, "word with a byte that is no bit:")?;
-    work.fill(2);
-    receive(rt, &chain, n, setting, &mut work, &mut side)?;
+    println!(
+        rt,
+        "the same with E = 287, one fewer than the 288 coded bits:"
+    )?;
     let short = Setting {
-        output: 95,
+        output: 287,
         seed: 25388,
     };
-    println!(rt, "word of 95 bits, one fewer than block and check bits:")?;
+    unpack(message, &mut work);
+    send(rt, &chain, n, short, &mut work, &mut side)?;
     receive(rt, &chain, n, short, &mut work, &mut side)
+}
+
+// What words with one bit turned meet, and one with a byte that is no bit.
+fn show_damage<S: Stage>(
+    rt: &LibcRuntime,
+    chain: &S,
+    n: usize,
+    s: Setting,
+    message: &[u8],
+) -> Result<(), AnyError> {
+    let mut work = vec![in rt.alloc(); 0u8; MOST_BITS]?;
+    let mut side = vec![in rt.alloc(); 0u8; MOST_BITS]?;
+    for turned in [0usize, 287, 288, 319] {
+        unpack(message, &mut work);
+        let _ = chain.forward(n, s, &mut work, &mut side);
+        turn(&mut work, turned);
+        println!(rt, "word with bit {turned} turned:")?;
+        receive(rt, chain, n, s, &mut work, &mut side)?;
+    }
+    println!(rt, "word with bytes that are no bits:")?;
+    work.fill(2);
+    receive(rt, chain, n, s, &mut work, &mut side)
 }
 
 // The check bits alone.

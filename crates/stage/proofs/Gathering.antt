@@ -47,3 +47,12 @@ gathered-apart ps xs ys n every e =
     let s = every p h in
     ap (λ i. getD xs i 0) (sym (s .2)) ∙ sym (getD-gathered ps xs (s .0) (s .1))
     ∙ ap (λ zs. getD zs (s .0) 0) e ∙ getD-gathered ps ys (s .0) (s .1) ∙ ap (λ i. getD ys i 0) (s .2))
+
+-- where every place occurs, only bits are gathered as bits
+pub bits-from-gathered : (ps xs : List ℕ) → Every (length xs) ps → binary (gathered ps xs) ≡ true → binary xs ≡ true
+bits-from-gathered ps xs every e =
+    let l = length-gathered ps xs in
+    binary-from xs (λ p h.
+    let s = every p h in
+    subst (λ x. x < 2) (getD-gathered ps xs (s .0) (s .1) ∙ ap (λ i. getD xs i 0) (s .2))
+    (binary-at (gathered ps xs) (s .0) e (omega (arith, s .1))))

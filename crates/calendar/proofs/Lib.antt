@@ -1,0 +1,4 @@
+pub mod Counting
+pub mod Openings
+pub mod Rounds
+pub mod Rules
