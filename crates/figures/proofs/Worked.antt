@@ -20,4 +20,4 @@ lone-one-at n =
 pub figures-hold : Figures-hold
 unfolding Figures-hold figures
 figures-hold =
-    (zero-check, (last-check, ((λ n. forty-ones), (lone-one-at, ((λ n. first-of-forty), ((λ n. refl), ((λ n. refl), tt)))))))
+    (zero-check, (last-check, ((λ n. forty-ones), (lone-one-at, ((λ n. first-of-forty), ((λ n. refl), ((λ n. refl), ((λ n. refl), ((λ n. refl), ((λ n. refl), tt))))))))))

@@ -1,12 +1,17 @@
 // Runs published vectors, and prints what came out beside what should.
+use calendar::identity::Identity;
 use chain::check_bits::CheckBits;
 use chain::check_bits::CheckBitsStage;
 use chain::tail_biting::TailBitingCode;
 use chain::tail_biting::TailBitingStage;
 use gold::Gold;
+use grid::reference::reference_bits;
 use packing::Hex;
 use packing::HexDisplay;
 use packing::unpack;
+use point::Point;
+use point::fixed::FixedKind;
+use point::fixed::FixedPoint;
 use stage::setting::MOST_BITS;
 use stage::setting::Setting;
 use stage::stages::Stage;
@@ -42,7 +47,11 @@ fn run(rt: &LibcRuntime) -> Result<(), AnyError> {
     sequence(rt, 6, 5, "1")?;
     sequence(rt, 6, 6, "A")?;
     sequence(rt, 7, 5, "6")?;
-    sequence(rt, 7, 6, "0")
+    sequence(rt, 7, 6, "0")?;
+    println!(rt, "the fixed point of bits 1, 0: I and Q, two's complement (the same thesis)")?;
+    fixed_point(rt, "FA5805A8")?;
+    println!(rt, "reference bits of identity 300, subframe 3, in rising place (TS 36.211, by an independent model)")?;
+    references(rt, 300, 3, "04B4")
 }
 
 fn say(rt: &LibcRuntime, bits: &[u8], should_be: &str) -> Result<(), AnyError> {
@@ -98,4 +107,20 @@ fn sequence(rt: &LibcRuntime, slot: u32, symbol: u32, should_be: &str) -> Result
     ];
     println!(rt, "  slot {slot}, symbol {symbol}")?;
     say(rt, &bits, should_be)
+}
+
+fn fixed_point(rt: &LibcRuntime, should_be: &str) -> Result<(), AnyError> {
+    let FixedPoint { i, q } = FixedPoint::of(true, false);
+    let mut bits = [0u8; 32];
+    let [a, b] = i.to_be_bytes();
+    let [c, d] = q.to_be_bytes();
+    unpack(&[a, b, c, d], &mut bits);
+    say(rt, &bits, should_be)
+}
+
+fn references(rt: &LibcRuntime, identity: u32, subframe: u8, should_be: &str) -> Result<(), AnyError> {
+    match Identity::new(identity) {
+        Some(known) => say(rt, &reference_bits(known, subframe), should_be),
+        None => Ok(println!(rt, "  refused 1")?),
+    }
 }
