@@ -15,17 +15,18 @@ use Rattle.stage.specs.Gather.{gathered}
 use Rattle.stage.specs.Meaning.{Meaning, Lawful, word, paired}
 use Rattle.stage.proofs.Paired.{paired-lawful, word-paired, word-bits}
 use Rattle.gold.specs.Sequence.{sequence}
-use Rattle.chain.specs.Ranges.{within}
-use Rattle.chain.specs.Checking.{checking, check-bits}
-use Rattle.chain.specs.Coding.{codable, coding, coded}
-use Rattle.chain.specs.Interleaving.{three-streams, interleaving, triple}
+use Rattle.stage.specs.Ranges.{within}
+use Rattle.check_bits.specs.Checking.{checking, check-bits}
+use Rattle.tail_biting.specs.Coding.{codable, coding, coded}
+use Rattle.interleaver.specs.Interleaving.{three-streams, interleaving, triple}
 use Rattle.chain.specs.Selecting.{selecting, ring}
 use Rattle.chain.specs.Scrambling.{scrambling}
 use Rattle.chain.specs.Chained.{chained, sendable, In-numbers, Chain-stands}
-use Rattle.chain.proofs.Checks.{checking-lawful, checked-word}
-use Rattle.chain.proofs.TailBites.{coding-lawful, coded-word}
-use Rattle.chain.proofs.Interleaves.{interleaving-lawful, interleaved-word}
-use Rattle.chain.proofs.Selects.{cond-some, within-parts, selecting-lawful, selected-word}
+use Rattle.check_bits.proofs.Checks.{checking-lawful, checked-word}
+use Rattle.tail_biting.proofs.TailBites.{coding-lawful, coded-word}
+use Rattle.interleaver.proofs.Interleaves.{interleaving-lawful, interleaved-word}
+use Rattle.stage.proofs.Lengths.{cond-some, within-parts}
+use Rattle.chain.proofs.Selects.{selecting-lawful, selected-word}
 use Rattle.chain.proofs.Scrambles.{scrambling-lawful}
 
 -- ---- where there is a word

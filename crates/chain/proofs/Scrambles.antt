@@ -21,9 +21,9 @@ use Rattle.stage.proofs.Padding.{front-cleared}
 use Rattle.stage.proofs.Framed.{ready, ready-back, framed-forward, framed-found}
 use Rattle.gold.specs.Sequence.{gold, sequence}
 use Rattle.gold.proofs.Sequence.{gold-bit, length-sequence, getD-sequence, sequence-more}
-use Rattle.chain.specs.Ranges.{within}
+use Rattle.stage.specs.Ranges.{within}
 use Rattle.chain.specs.Scrambling.{scrambling}
-use Rattle.chain.proofs.Selects.{cond-some, within-parts}
+use Rattle.stage.proofs.Lengths.{cond-some, within-parts}
 
 -- a loop that adds the sequence, at its start and one bit on
 pub added-none : (xs : List ℕ) (seed : ℕ) → xs ≡ xor xs (sequence seed 0)

@@ -19,20 +19,14 @@ use Rattle.stage.specs.Gather.{gathered}
 use Rattle.stage.specs.Meaning.{Lawful, word}
 use Rattle.stage.specs.Refusals.{first-fault, forward-tests, back-tests}
 use Rattle.stage.specs.Calls.{word-length, covering, Forward, Back}
+use Rattle.stage.proofs.Lengths.{cond-some, within-parts}
 use Rattle.stage.proofs.Binary.{binary-zeros, binary-take}
 use Rattle.stage.proofs.Gathering.{gathered-bits, gathered-xor, gathered-apart}
 use Rattle.stage.proofs.Padding.{front-cleared}
 use Rattle.stage.proofs.Framed.{word-plain, ready, ready-back, Ready-back, framed-forward, framed-found, framed-lacking}
-use Rattle.chain.specs.Ranges.{within}
+use Rattle.stage.specs.Ranges.{within}
 use Rattle.chain.specs.Selecting.{ring, selecting}
 use Rattle.chain.proofs.Rings.{length-ring, ring-within, ring-every, ring-self, getD-selected, length-selected}
-
-pub cond-some : (t : Bool) (e : ℕ) → 0 < cond t e 0 → t ≡ true
-cond-some true e h = refl
-cond-some false e h = let z : ⊥ = omega arith in absurd z
-
-pub within-parts : (n : ℕ) → within n ≡ true → (0 < n) × (n ≤ 7680)
-within-parts n e = let p = and-parts (ltb 0 n) (leb n 7680) e in (ltb-true 0 n (p .0), leb-true n 7680 (p .1))
 
 module _ (n e : ℕ) (some : 0 < selecting .size n e) where
   in-both : (0 < n) × (n ≤ 7680) × (0 < e) × (e ≤ 7680)

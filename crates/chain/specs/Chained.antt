@@ -10,10 +10,10 @@ use Rattle.stage.specs.Gather.{gathered}
 use Rattle.stage.specs.Meaning.{Meaning, word, paired}
 use Rattle.stage.specs.Refusals.{ranged}
 use Rattle.gold.specs.Sequence.{sequence}
-use Rattle.chain.specs.Ranges.{within}
-use Rattle.chain.specs.Checking.{checking, check-bits}
-use Rattle.chain.specs.Coding.{coding, coded}
-use Rattle.chain.specs.Interleaving.{interleaving, triple}
+use Rattle.stage.specs.Ranges.{within}
+use Rattle.check_bits.specs.Checking.{checking, check-bits}
+use Rattle.tail_biting.specs.Coding.{coding, coded}
+use Rattle.interleaver.specs.Interleaving.{interleaving, triple}
 use Rattle.chain.specs.Selecting.{selecting, ring}
 use Rattle.chain.specs.Scrambling.{scrambling}
 

@@ -2,7 +2,7 @@
 use mathlib.Core.Bool.{true, _&&_, cond}
 use Rattle.stage.specs.Meaning.{Meaning}
 use Rattle.gold.specs.Sequence.{sequence}
-use Rattle.chain.specs.Ranges.{within}
+use Rattle.stage.specs.Ranges.{within}
 
 abbrev pub scrambling : Meaning
 scrambling = record {

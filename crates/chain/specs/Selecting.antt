@@ -7,7 +7,7 @@ use Rattle.std.specs.Iters.{counting}
 use Rattle.stage.specs.Bits.{zeros}
 use Rattle.stage.specs.Gather.{gathered}
 use Rattle.stage.specs.Meaning.{Meaning}
-use Rattle.chain.specs.Ranges.{within}
+use Rattle.stage.specs.Ranges.{within}
 
 -- bit k of the word is taken from place k modulo n
 abbrev pub ring : ℕ → ℕ → List ℕ

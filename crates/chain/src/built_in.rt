@@ -1,19 +1,19 @@
 ghost use mathlib.Core.Path.{_≡_};
 ghost use Rattle.chain.specs.Chained.{chain-length, chain-covers, Chain-stands};
-use crate::check_bits::CheckBits;
-use crate::check_bits::CheckBitsStage;
-use crate::interleaver::Interleaver;
-use crate::interleaver::InterleaverStage;
 use crate::scrambler::Scrambler;
 use crate::scrambler::ScramblerStage;
 use crate::selection::Selection;
 use crate::selection::SelectionStage;
-use crate::tail_biting::TailBitingCode;
-use crate::tail_biting::TailBitingStage;
+use check_bits::CheckBits;
+use check_bits::CheckBitsStage;
+use interleaver::Interleaver;
+use interleaver::InterleaverStage;
 use stage::pair::Pair;
 use stage::pair::PairStage;
 use stage::setting::Setting;
 use stage::stages::Stage;
+use tail_biting::TailBitingCode;
+use tail_biting::TailBitingStage;
 
 // The five stages in order, as nested pairs.
 pub type BuiltIn = Pair<

@@ -1,7 +1,4 @@
-// The stages of the downlink's channel coding.
+// Bit selection, the scrambler, and the built-in chain of all five stages.
 pub mod built_in;
-pub mod check_bits;
-pub mod interleaver;
 pub mod scrambler;
 pub mod selection;
-pub mod tail_biting;

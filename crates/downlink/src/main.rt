@@ -1,11 +1,10 @@
 // Takes a message through a chain of stages and back, and shows what damaged words meet.
 use chain::built_in::built_in;
-use chain::check_bits::CheckBits;
-use chain::check_bits::CheckBitsStage;
-use chain::interleaver::InterleaverStage;
 use chain::scrambler::ScramblerStage;
 use chain::selection::SelectionStage;
-use chain::tail_biting::TailBitingStage;
+use check_bits::CheckBits;
+use check_bits::CheckBitsStage;
+use interleaver::InterleaverStage;
 use packing::Hex;
 use packing::HexDisplay;
 use packing::unpack;
@@ -15,6 +14,7 @@ use stage::setting::MOST_BITS;
 use stage::setting::Setting;
 use stage::stages::Stage;
 use std::error::AnyError;
+use tail_biting::TailBitingStage;
 
 fn main(rt: LibcRuntime) -> Result<(), AnyError> {
     rt.report(run(&rt))

@@ -4,10 +4,10 @@ use mathlib.Core.List.{List, [], _∷_, _++_}
 use Prim.Native.Nat.{ℕ, _+_, _-_}
 use native.Mathlib.Omega.{arith}
 use Rattle.stage.specs.Bits.{zeros}
-use Rattle.chain.specs.Coding.{stream, taps-of}
-use Rattle.chain.proofs.CheckFigures.{zero-check, last-check}
-use Rattle.chain.proofs.CodeFigures.{forty-ones, lone-one}
-use Rattle.chain.proofs.Cells.{first-of-forty}
+use Rattle.tail_biting.specs.Coding.{stream, taps-of}
+use Rattle.check_bits.proofs.CheckFigures.{zero-check, last-check}
+use Rattle.tail_biting.proofs.CodeFigures.{forty-ones, lone-one}
+use Rattle.interleaver.proofs.Cells.{first-of-forty}
 use Rattle.figures.specs.Figures.{figures, Figures-hold}
 
 lone-one-at : (n : ℕ) → stream (taps-of 0) (1 ∷ zeros (n + 6)) ≡ (1 ∷ 0 ∷ 1 ∷ 1 ∷ 0 ∷ 1 ∷ 1 ∷ []) ++ zeros n

@@ -7,9 +7,9 @@ use lib.IntN.{ℤ, pos, negsuc}
 use lib.ListN.{getD, take, replicate}
 use Rattle.std.specs.shelf.Lists.{All}
 use Rattle.stage.specs.Bits.{zeros}
-use Rattle.chain.specs.Checking.{check-bits, to-bits}
-use Rattle.chain.specs.Coding.{coded, stream, taps-of}
-use Rattle.chain.specs.Interleaving.{places}
+use Rattle.check_bits.specs.Checking.{check-bits, to-bits}
+use Rattle.tail_biting.specs.Coding.{coded, stream, taps-of}
+use Rattle.interleaver.specs.Interleaving.{places}
 use Rattle.chain.specs.Selecting.{ring}
 use Rattle.chain.specs.Chained.{chained}
 use Rattle.calendar.specs.Rounds.{seed-of}

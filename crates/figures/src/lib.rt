@@ -16,7 +16,10 @@ mod tests {
     // Four parts from frame 0, subframe 8, each sent once.
     #[test]
     fn four_parts() -> Result<(), Fail> {
-        let mut time = Time { frame: 0, subframe: 8 };
+        let mut time = Time {
+            frame: 0,
+            subframe: 8,
+        };
         for (frame, subframe) in [(0u16, 8u8), (1, 1), (1, 2), (1, 3)] {
             time = time.next_open();
             check_eq(time, Time { frame, subframe })?;

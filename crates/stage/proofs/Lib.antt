@@ -7,3 +7,4 @@ pub mod Past
 pub mod Paired
 pub mod Framed
 pub mod PairCalls
+pub mod Lengths

@@ -1,5 +1,6 @@
 pub mod Bits
 pub mod Gather
+pub mod Ranges
 pub mod Meaning
 pub mod Refusals
 pub mod Calls

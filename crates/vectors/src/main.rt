@@ -1,9 +1,7 @@
 // Runs published vectors, and prints what came out beside what should.
 use calendar::identity::Identity;
-use chain::check_bits::CheckBits;
-use chain::check_bits::CheckBitsStage;
-use chain::tail_biting::TailBitingCode;
-use chain::tail_biting::TailBitingStage;
+use check_bits::CheckBits;
+use check_bits::CheckBitsStage;
 use gold::Gold;
 use grid::reference::reference_bits;
 use packing::Hex;
@@ -16,6 +14,8 @@ use stage::setting::MOST_BITS;
 use stage::setting::Setting;
 use stage::stages::Stage;
 use std::error::AnyError;
+use tail_biting::TailBitingCode;
+use tail_biting::TailBitingStage;
 
 const SETTING: Setting = Setting { output: 1, seed: 0 };
 
@@ -48,9 +48,15 @@ fn run(rt: &LibcRuntime) -> Result<(), AnyError> {
     sequence(rt, 6, 6, "A")?;
     sequence(rt, 7, 5, "6")?;
     sequence(rt, 7, 6, "0")?;
-    println!(rt, "the fixed point of bits 1, 0: I and Q, two's complement (the same thesis)")?;
+    println!(
+        rt,
+        "the fixed point of bits 1, 0: I and Q, two's complement (the same thesis)"
+    )?;
     fixed_point(rt, "FA5805A8")?;
-    println!(rt, "reference bits of identity 300, subframe 3, in rising place (TS 36.211, by an independent model)")?;
+    println!(
+        rt,
+        "reference bits of identity 300, subframe 3, in rising place (TS 36.211, by an independent model)"
+    )?;
     references(rt, 300, 3, "04B4")
 }
 
@@ -118,7 +124,12 @@ fn fixed_point(rt: &LibcRuntime, should_be: &str) -> Result<(), AnyError> {
     say(rt, &bits, should_be)
 }
 
-fn references(rt: &LibcRuntime, identity: u32, subframe: u8, should_be: &str) -> Result<(), AnyError> {
+fn references(
+    rt: &LibcRuntime,
+    identity: u32,
+    subframe: u8,
+    should_be: &str,
+) -> Result<(), AnyError> {
     match Identity::new(identity) {
         Some(known) => say(rt, &reference_bits(known, subframe), should_be),
         None => Ok(println!(rt, "  refused 1")?),

@@ -1,8 +1,0 @@
-use Rattle.chain.proofs.Codes.{encoded}
-use Rattle.chain.proofs.tail_biting.encode.Needs as need
-
-pub returns : need.returns
-returns c =
-    encoded (c .args .n) (c .args .work .now) (c .args .side .now)
-    (c .copy-from-slice .last .self) (c .fill .last .self) (c .add-word .last .out) (c .pre .work-room)
-    (c .copy-from-slice .ensures .after) (c .fill .ensures .after (λ y e. e)) (c .add-word .ensures)

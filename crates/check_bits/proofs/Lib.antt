@@ -1,0 +1,4 @@
+pub mod Division
+pub mod Shifting
+pub mod Checks
+pub mod CheckFigures

@@ -1,0 +1,6 @@
+pub mod Tapping
+pub mod Adding
+pub mod Streams
+pub mod Codes
+pub mod TailBites
+pub mod CodeFigures
