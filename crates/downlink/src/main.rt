@@ -1,4 +1,8 @@
-// Takes a message through a chain of stages and back, and shows what damaged words meet.
+// Takes a message through the built-in chain and back, shows what damaged words meet, and puts a cell and a terminal on air.
+mod picture;
+mod session;
+
+use crate::session::show_session;
 use chain::built_in::built_in;
 use chain::scrambler::ScramblerStage;
 use chain::selection::SelectionStage;
@@ -8,6 +12,10 @@ use interleaver::InterleaverStage;
 use packing::Hex;
 use packing::HexDisplay;
 use packing::unpack;
+use point::fixed::FixedKind;
+use point::fixed::FixedPoint;
+use point::float::FloatKind;
+use point::float::FloatPoint;
 use stage::fault::StageFault;
 use stage::pair::PairStage;
 use stage::setting::MOST_BITS;
@@ -61,7 +69,10 @@ fn run(rt: &LibcRuntime) -> Result<(), AnyError> {
     };
     unpack(message, &mut work);
     send(rt, &chain, n, short, &mut work, &mut side)?;
-    receive(rt, &chain, n, short, &mut work, &mut side)
+    receive(rt, &chain, n, short, &mut work, &mut side)?;
+
+    show_session::<FixedPoint>(rt, "fixed")?;
+    show_session::<FloatPoint>(rt, "float")
 }
 
 // What words with one bit turned meet, and one with a byte that is no bit.

@@ -1,0 +1,12 @@
+pub mod Ordered
+pub mod Ending
+pub mod Ranges
+pub mod Offering
+pub mod Tabled
+pub mod Encoding
+pub mod Writing
+pub mod Tested
+pub mod Found
+pub mod Decoded
+pub mod Parted
+pub mod Heard
