@@ -1,4 +1,8 @@
 // Takes a message through the built-in chain and back, shows what damaged words meet, and puts a cell and a terminal on air.
+ghost use mathlib.Core.Path.{_≡_};
+ghost use lib.Bits.{bitXor};
+ghost use lib.ListN.{getD, set, take};
+
 mod picture;
 mod session;
 
@@ -178,11 +182,16 @@ fn reason(fault: StageFault) -> &'static str {
 }
 
 // The first n of some bits, or all where there are not so many.
-fn front(bits: &[u8], n: usize) -> &[u8] {
+fn front(bits: &[u8], n: usize) -> &[u8]
+    ensures { λ r. ⌜ now r ≡ take n (now (bits .entry)) ⌝ }
+{
     if n <= bits.len() { &bits[0..n] } else { bits }
 }
 
-fn turn(bits: &mut [u8], k: usize) {
+// Turns bit k, where there is one.
+fn turn(bits: &mut [u8], k: usize)
+    ensures { λ _. ⌜ now (bits .exit) ≡ set (now (bits .entry)) k (bitXor (getD (now (bits .entry)) k 0) 1) ⌝ }
+{
     if k < bits.len() {
         bits[k] ^= 1;
     }

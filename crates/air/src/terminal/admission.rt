@@ -17,6 +17,7 @@ ghost use Rattle.calendar.specs.Courses.{going-of};
 ghost use Rattle.air.specs.declared.fault.EndFault.the-variants.{ShortBuffer, Pending, WordLength, GridSize, ShortBlock, NoPair};
 ghost use Rattle.air.specs.Terminals.{short-block};
 ghost use Rattle.air.specs.TerminalViews.{awaiting-of, word-size, mark, covered, covered-by, is-due};
+use crate::checks::check_word;
 use crate::fault::EndFault;
 use crate::terminal::Terminal;
 use crate::terminal::slot::Slot;
@@ -135,10 +136,6 @@ impl<S: Stage, P: Point> Terminal<S, P> {
     pub(crate) fn check_length(&self, course: Course) -> Result<(), EndFault>
         ensures { λ r. ⌜ errPart r ≡ first-fault ((not (eqb (word-size (S·Stage .meaning (now (self .entry) .chain)) (going-of course .grant)) 0) && not (eqb (word-size (S·Stage .meaning (now (self .entry) .chain)) (going-of course .grant)) (output (going-of course .grant))), WordLength) ∷ []) ⌝ }
     {
-        let size = self.word_length(course);
-        if size != 0 && size != course.output() {
-            return Err(EndFault::WordLength);
-        }
-        Ok(())
+        check_word(self.word_length(course), course.output())
     }
 }
