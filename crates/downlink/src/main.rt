@@ -33,8 +33,14 @@ fn main(rt: LibcRuntime) -> Result<(), AnyError> {
 }
 
 fn run(rt: &LibcRuntime) -> Result<(), AnyError> {
-    let message = b"123456789";
-    let n = 8 * message.len();
+    show_chain(rt, b"123456789")?;
+    show_session::<FixedPoint>(rt, "fixed")?;
+    show_session::<FloatPoint>(rt, "float")
+}
+
+// A message through the chain and back, damaged, and where the chain does not cover.
+fn show_chain(rt: &LibcRuntime, message: &[u8]) -> Result<(), AnyError> {
+    let n = message.len().saturating_mul(8);
     let setting = Setting {
         output: 320,
         seed: 25388,
@@ -73,10 +79,7 @@ fn run(rt: &LibcRuntime) -> Result<(), AnyError> {
     };
     unpack(message, &mut work);
     send(rt, &chain, n, short, &mut work, &mut side)?;
-    receive(rt, &chain, n, short, &mut work, &mut side)?;
-
-    show_session::<FixedPoint>(rt, "fixed")?;
-    show_session::<FloatPoint>(rt, "float")
+    receive(rt, &chain, n, short, &mut work, &mut side)
 }
 
 // What words with one bit turned meet, and one with a byte that is no bit.

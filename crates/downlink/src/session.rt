@@ -26,22 +26,40 @@ use tail_biting::TailBitingStage;
 
 const IDENTITY: u32 = 300;
 
-// Offers a block of five bytes in two subframes from frame 0, subframe 8 on, and shows the first grid.
+// Offers a block of five bytes in two subframes from frame 0, subframe 8 on.
 pub fn show_session<P: Point>(rt: &LibcRuntime, kind: &str) -> Result<(), AnyError> {
+    let mut cell: Cell<BuiltIn, P> = parked().cell(built_in());
+    let mut terminal: Terminal<BuiltIn, P> = parked().terminal(built_in());
+    println!(
+        rt,
+        "on air: identity {IDENTITY}, frame 0, subframe 8, {kind} points"
+    )?;
+    offer_hello(rt, &mut cell, &mut terminal)?;
+    show_subframes(rt, &mut cell, &mut terminal)?;
+    let parked = cell.stop();
+    let Time { frame, subframe } = parked.time();
+    println!(
+        rt,
+        "parked: identity {}, frame {frame}, subframe {subframe}",
+        parked.identity()
+    )?;
+    let _ = terminal.stop();
+    Ok(())
+}
+
+fn offer_hello<P: Point>(
+    rt: &LibcRuntime,
+    cell: &mut Cell<BuiltIn, P>,
+    terminal: &mut Terminal<BuiltIn, P>,
+) -> Result<(), AnyError> {
     let grant = Grant {
         rnti: 17,
         subframes: 2,
         repetitions: 1,
         length: 40,
     };
-    let mut cell: Cell<BuiltIn, P> = parked().cell(built_in());
-    let mut terminal: Terminal<BuiltIn, P> = parked().terminal(built_in());
     let mut work = vec![in rt.alloc(); 0u8; MOST_BITS]?;
     let mut side = vec![in rt.alloc(); 0u8; MOST_BITS]?;
-    println!(
-        rt,
-        "on air: identity {IDENTITY}, frame 0, subframe 8, {kind} points"
-    )?;
     unpack(b"Hello", &mut work);
     match cell.offer(grant, &mut work, &mut side) {
         Ok(()) => println!(
@@ -53,6 +71,17 @@ pub fn show_session<P: Point>(rt: &LibcRuntime, kind: &str) -> Result<(), AnyErr
     if let Err(fault) = terminal.expect(grant) {
         println!(rt, "expect refused {}", fault.number())?;
     }
+    Ok(())
+}
+
+// Four subframes, each heard at once, and the first grid.
+fn show_subframes<P: Point>(
+    rt: &LibcRuntime,
+    cell: &mut Cell<BuiltIn, P>,
+    terminal: &mut Terminal<BuiltIn, P>,
+) -> Result<(), AnyError> {
+    let mut work = vec![in rt.alloc(); 0u8; MOST_BITS]?;
+    let mut side = vec![in rt.alloc(); 0u8; MOST_BITS]?;
     let mut time = Time {
         frame: 0,
         subframe: 8,
@@ -73,16 +102,6 @@ pub fn show_session<P: Point>(rt: &LibcRuntime, kind: &str) -> Result<(), AnyErr
         }
         time = time.step();
     }
-    let parked = cell.stop();
-    let stopped = parked.time();
-    println!(
-        rt,
-        "parked: identity {}, frame {}, subframe {}",
-        parked.identity(),
-        stopped.frame,
-        stopped.subframe
-    )?;
-    let _ = terminal.stop();
     Ok(())
 }
 
