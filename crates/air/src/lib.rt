@@ -1,4 +1,6 @@
 // The two ends of the downlink: parked, and on air as a cell or as a terminal.
+#![tactic(auto)]
+
 pub mod answers;
 mod asking;
 mod buffers;

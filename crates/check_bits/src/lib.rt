@@ -1,3 +1,5 @@
+#![tactic(auto)]
+
 ghost use Rattle.std.specs.Prelude.{◌≡◌, ℕ, ◌^◌, ◌<◌, true, length, Decides};
 ghost use Rattle.stage.specs.Bits.{binary};
 ghost use Rattle.check_bits.specs.Checking.{checking, check_bits_of, taken_in, to_bits, CheckBitsStand};

@@ -1,4 +1,6 @@
 // Takes a message through the built-in chain and back, shows what damaged words meet, and puts a cell and a terminal on air.
+#![tactic(auto)]
+
 ghost use Rattle.std.specs.Prelude.{◌≡◌, take, bit_xor, slice_index, slice_set};
 
 mod picture;

@@ -1,4 +1,6 @@
 // Worked figures, proved.
+#![tactic(auto)]
+
 ghost use Rattle.figures.specs.Figures.{FiguresHold};
 
 // Every figure of the list holds.

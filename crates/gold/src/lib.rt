@@ -1,3 +1,5 @@
+#![tactic(auto)]
+
 ghost use Rattle.std.specs.Prelude.{◌≡◌, ℕ, ◌+◌, ◌*◌, ◌/◌, ◌%◌, ◌^◌};
 ghost use Rattle.gold.specs.Registers.{bits_of};
 ghost use Rattle.gold.specs.Sequence.{fresh₁, fresh₂, shifted, gold, MeetsStandard};

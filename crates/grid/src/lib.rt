@@ -1,4 +1,6 @@
 // The resource grid of a subframe: what each element is for, and writing and reading a grid.
+#![tactic(auto)]
+
 pub mod places;
 pub mod purpose;
 pub mod reference;

@@ -1,3 +1,5 @@
+#![tactic(auto)]
+
 ghost use Rattle.std.specs.Prelude.{◌≡◌, ◌+◌, ◌*◌, ◌<◌, ◌≤◌, length, take, slice_index, slice_set};
 ghost use Rattle.stage.specs.Gather.{gathered};
 ghost use Rattle.interleaver.specs.Interleaving.{order, rows, cell, bit_in, triple, three_streams, interleaving};

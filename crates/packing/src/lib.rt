@@ -1,4 +1,6 @@
 // Bits and bytes: a byte holds eight bits, the highest first.
+#![tactic(auto)]
+
 ghost use Rattle.std.specs.Prelude.{◌≡◌, length};
 ghost use Rattle.packing.specs.Packed.{bit_at, unpacked};
 

@@ -1,4 +1,6 @@
 // Kinds of point: what stands on one element of a grid.
+#![tactic(auto)]
+
 ghost use Rattle.std.specs.Prelude.{◌≡◌};
 ghost use Rattle.point.specs.Kinds.{Kind, LawfulKind, Distinct};
 

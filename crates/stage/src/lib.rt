@@ -1,4 +1,6 @@
 // Stages of a channel coder: maps from blocks of bits to words and back, and pairs of them.
+#![tactic(auto)]
+
 pub mod admission;
 pub mod buffers;
 pub mod fault;

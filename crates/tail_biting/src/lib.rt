@@ -1,3 +1,5 @@
+#![tactic(auto)]
+
 ghost use Rattle.std.specs.Prelude.{◌≡◌, ◌*◌, ◌<◌, ◌≤◌, [], ◌∷◌, length, take, Decides, MatchResult, ◌≢◌};
 ghost use Rattle.std.specs.List.{AllByRecursion as All};
 ghost use Rattle.stage.specs.Bits.{xor, zeros, padded};

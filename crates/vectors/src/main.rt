@@ -1,4 +1,6 @@
 // Runs published vectors, and prints what came out beside what should.
+#![tactic(auto)]
+
 use calendar::identity::Identity;
 use check_bits::CheckBits;
 use gold::Gold;
