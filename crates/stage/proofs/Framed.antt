@@ -70,7 +70,7 @@ module _ {m : Meaning} (law : Lawful m) (n : ℕ) (s : Setting) (work side : Lis
   framed_forward passes w d w_is d_is =
       let r = ready passes in
       let long = (word_bits law n s.output s.seed r.opened.some (open_seeded r.opened) (take n work) r.bits).0 in
-      accept_forward r.opened w d (Ok k) r.bits.1 (record { answer = ap Ok (r.word-is ∙ sym long); work_is = w_is; side_is = d_is })
+      accept_forward r.opened w d (Ok k) r.bits.1 (record { answer = ap Ok (r.word_is ∙ sym long); work_is = w_is; side_is = d_is })
 
   module _ (c : Bool) (c_is : c ≡ covering m n s) where
     -- what stands once the tests of `back` have passed
@@ -104,7 +104,7 @@ module _ {m : Meaning} (law : Lawful m) (n : ℕ) (s : Setting) (work side : Lis
 
     module _ (passes : None ≡ first_fault (back_tests s k c work side)) (w d : List ℕ) (d_is : d ≡ zeros (length side)) where
       word_here : take k work ≡ take (m.size n s.output) work
-      word_here = ap (λ j. take j work) (ready_back passes).word-is
+      word_here = ap (λ j. take j work) (ready_back passes).word_is
 
       pub framed_found : (b : List ℕ) → Bits n b → word m n s.output s.seed b ≡ take k work → w ≡ padded b (length work)
           → Back m n s work side w d (Ok n)

@@ -6,6 +6,6 @@ pub returns : goal.returns
 returns c =
     let p = c.args.self in
     record {
-      value = c.seed-from.ensures.value ∙ seed_from_first c.args.identity.value p.grant p.start p.first p.gone p.opening;
-      most = c.seed-from.ensures.most;
+      value = c.seed_from.ensures.value ∙ seed_from_first c.args.identity.value p.grant p.start p.first p.gone p.opening;
+      most = c.seed_from.ensures.most;
     }
