@@ -77,14 +77,14 @@ module _ (n : ℕ) (s : Setting) (work side : List ℕ) (k : ℕ) (k_is : k ≡ 
   scramble_forward passes =
       let r = ready scrambling_lawful n s work side k k_is passes in
       let q = left (omega arith) in
-      let k_n : k ≡ n = r.word-is ∙ size_is n s.output r.opened.some in
+      let k_n : k ≡ n = r.word_is ∙ size_is n s.output r.opened.some in
       subst (λ m. Forward scrambling n s work side w d (Ok m)) k_n
       (framed_forward scrambling_lawful n s work side k k_is passes w d (q.2 ∙ ap (λ x. padded x (length work)) q.0) d_is)
 
   pub scramble_back : (c : Bool) → c ≡ covering scrambling n s → None ≡ first_fault (back_tests s k c work side) → Back scrambling n s work side w d (Ok n)
   scramble_back c c_is passes =
       let r = ready_back scrambling_lawful n s work side k k_is c c_is passes in
-      let k_n : k ≡ n = r.word-is ∙ size_is n s.output r.opened.some in
+      let k_n : k ≡ n = r.word_is ∙ size_is n s.output r.opened.some in
       let q = left (omega arith) in
       let front : Bits n (take n work) = subst (λ m. Bits m (take m work)) k_n r.bits in
       let seq = sequence_bits s.seed n in

@@ -75,7 +75,7 @@ module _ (n : ℕ) (s : Setting) (work side : List ℕ) (k : ℕ) (k_is : k ≡ 
       → Forward selecting n s work side w d (Ok k)
   select_forward passes j same part w d part_is w_is d_is =
       let r = ready selecting_lawful n s work side k k_is passes in
-      let e_is : k ≡ s.output = r.word-is ∙ size_is n s.output r.opened.some in
+      let e_is : k ≡ s.output = r.word_is ∙ size_is n s.output r.opened.some in
       let is : part ≡ word selecting n s.output s.seed (take n work) =
       part_is ∙ at_part j same (omega arith) ∙ ring_front n k work r.some (omega arith) (omega arith)
       ∙ ap (λ i. gathered (ring n i) (take n work)) e_is
@@ -90,13 +90,13 @@ module _ (n : ℕ) (s : Setting) (work side : List ℕ) (k : ℕ) (k_is : k ≡ 
     here = ready_back selecting_lawful n s work side k k_is c c_is passes
 
     e_here : k ≡ s.output
-    e_here = here.word-is ∙ size_is n s.output here.opened.some
+    e_here = here.word_is ∙ size_is n s.output here.opened.some
 
     n_k : n ≤ k
     n_k = let le = leb-true n s.output here.covers in let e = e_here in omega arith
 
     room : k ≤ length work
-    room = let a = here.word_fits in let b = here.work-fits in omega arith
+    room = let a = here.word_fits in let b = here.work_fits in omega arith
 
     front_bits : Bits n (take n work)
     front_bits = (

@@ -84,7 +84,7 @@ module _ (n : ℕ) (s : Setting) (work side : List ℕ) (k : ℕ) (k_is : k ≡ 
       → Forward checking n s work side w d (Ok k)
   check_forward passes part w d part_is w_is d_is =
       let r = ready checking_lawful n s work side k k_is passes in
-      let k_n : k ≡ n + 24 = r.word-is ∙ size_is n s.output r.opened.some in
+      let k_n : k ≡ n + 24 = r.word_is ∙ size_is n s.output r.opened.some in
       let is : part ≡ check_bits_of (take n work) = part_is ∙ number_is in
       let put : put_mid n i work part ≡ (take n work ++ part) ++ drop k work = put_behind work part n k i i_is (omega arith) in
       let long : length (take n work ++ part) ≡ k =
@@ -101,14 +101,14 @@ module _ (n : ℕ) (s : Setting) (work side : List ℕ) (k : ℕ) (k_is : k ≡ 
     here = ready_back checking_lawful n s work side k k_is c c_is passes
 
     k_here : k ≡ n + 24
-    k_here = here.word-is ∙ size_is n s.output here.opened.some
+    k_here = here.word_is ∙ size_is n s.output here.opened.some
 
     n_k : n ≤ k
     n_k = let z = k_here in omega arith
 
     front_bits : Bits n (take n work)
     front_bits = (
-      length-take-le n work (let a = here.work-fits in let b = here.word_fits in let z = n_k in omega arith),
+      length-take-le n work (let a = here.work_fits in let b = here.word_fits in let z = n_k in omega arith),
       ap binary (sym (take-take n k work n_k)) ∙ binary-take n (take k work) here.bits.1,
     )
 
@@ -134,5 +134,5 @@ pub front_binary : (n : ℕ) (s : Setting) (work side : List ℕ) (k : ℕ) → 
     → None ≡ first_fault (back_tests s k c work side) → (j : ℕ) → j ≡ n → binary (take j work) ≡ true
 front_binary n s work side k k_is c c_is passes j j_is =
     let r = ready_back checking_lawful n s work side k k_is c c_is passes in
-    let k_n : k ≡ n + 24 = r.word-is ∙ size_is n s.output r.opened.some in
+    let k_n : k ≡ n + 24 = r.word_is ∙ size_is n s.output r.opened.some in
     ap (λ (m : ℕ). binary (take m work)) j_is ∙ ap binary (sym (take-take n k work (omega arith))) ∙ binary-take n (take k work) r.bits.1

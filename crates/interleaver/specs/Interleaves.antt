@@ -99,7 +99,7 @@ module _ (n : ℕ) (s : Setting) (work side : List ℕ) (k : ℕ) (k_is : k ≡ 
     there = ready interleaving_lawful n s work side k k_is passes
 
     pub forward_room : Room n work side
-    forward_room = room n s.output there.opened.some work side there.work-fits there.side-fits
+    forward_room = room n s.output there.opened.some work side there.work_fits there.side_fits
 
     pub interleave_forward : (mid w d : List ℕ) → length mid ≡ length work
         → take (3 * (n / 3)) mid ≡ gathered (triple (n / 3)) (take (3 * (n / 3)) work)
@@ -107,7 +107,7 @@ module _ (n : ℕ) (s : Setting) (work side : List ℕ) (k : ℕ) (k_is : k ≡ 
     interleave_forward mid w d long front w_is d_is =
         let r = there in
         let t = streamed n s.output r.opened.some in
-        let whole : 3 * (n / 3) ≡ k = t.whole ∙ sym (r.word-is ∙ t.same) in
+        let whole : 3 * (n / 3) ≡ k = t.whole ∙ sym (r.word_is ∙ t.same) in
         let is : take k mid ≡ word interleaving n s.output s.seed (take n work) =
         ap (λ i. take i mid) (sym whole) ∙ front ∙ ap (λ i. gathered (triple (n / 3)) (take i work)) t.whole
         ∙ sym (interleaved_word n s.output s.seed r.opened.some (take n work) r.bits) in
@@ -118,7 +118,7 @@ module _ (n : ℕ) (s : Setting) (work side : List ℕ) (k : ℕ) (k_is : k ≡ 
     back_there = ready_back interleaving_lawful n s work side k k_is c c_is passes
 
     pub back_room : Room n work side
-    back_room = room n s.output back_there.opened.some work side back_there.work-fits back_there.side-fits
+    back_room = room n s.output back_there.opened.some work side back_there.work_fits back_there.side_fits
 
     pub interleave_back : (mid w d : List ℕ) → length mid ≡ length work
         → gathered (triple (n / 3)) (take (3 * (n / 3)) mid) ≡ take (3 * (n / 3)) work
@@ -127,7 +127,7 @@ module _ (n : ℕ) (s : Setting) (work side : List ℕ) (k : ℕ) (k_is : k ≡ 
         let r = back_there in
         let some = r.opened.some in
         let t = streamed n s.output some in
-        let same : k ≡ n = r.word-is ∙ t.same in
+        let same : k ≡ n = r.word_is ∙ t.same in
         let is : gathered (triple (n / 3)) (take n mid) ≡ take k work =
         ap (λ i. gathered (triple (n / 3)) (take i mid)) (sym t.whole) ∙ front ∙ ap (λ i. take i work) (t.whole ∙ sym same) in
         let size : length (take n mid) ≡ n = length-take-le n mid (omega arith) in

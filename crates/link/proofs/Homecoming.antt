@@ -100,7 +100,7 @@ module _ {X : Type 0} (K : Kind X) (kind : LawfulKind K) (identity : ℕ) (small
             (length-carrying K 168 identity t.subframe (sent_bits identity m s)) b
             (and_right (first_copy s.going.grant s.going.gone) _ (ap (λ o. not (is_some o)) air));
         awaited_is = good.awaited_is;
-        handed_is = good.handed-is ∙ sym (joins_is identity small m law s lasts cov);
+        handed_is = good.handed_is ∙ sym (joins_is identity small m law s lasts cov);
         noted_is = noted_next m s lasts;
       }
 
@@ -275,7 +275,7 @@ module _ {X : Type 0} (K : Kind X) (kind : LawfulKind K) where
             ∙ ap (λ a. record { identity = c.identity; time = after c.time; chain = c.chain; awaited = a }) f.awaited_is;
         account_is =
             ap₂ (λ n new. record { identity = c.identity; time = after c.time; chain = c.chain; noted = n; blocks = blocks ++ new })
-            f.noted-is (sym (ap (λ o. o.1) out ∙ f.handed-is));
+            f.noted_is (sym (ap (λ o. o.1) out ∙ f.handed_is));
       }
   accepted_call c blocks b withdraw sound serves e = record {
     sound = record { small = sound.small; timed = sound.timed; law = sound.law; pends = tt };

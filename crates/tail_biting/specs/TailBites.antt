@@ -53,7 +53,7 @@ module _ (n : ℕ) (s : Setting) (work side : List ℕ) (k : ℕ) (k_is : k ≡ 
     here = ready_back coding_lawful n s work side k k_is c c_is passes
 
     long : k ≡ 3 * n
-    long = here.word-is ∙ size_is n s.output here.opened.some
+    long = here.word_is ∙ size_is n s.output here.opened.some
 
     cleared : d ≡ zeros (length side)
     cleared = d_is ∙ ap zeros same

@@ -15,7 +15,7 @@ pub returns-else-top-eq1 : goal.returns-else-top-eq1
 returns-else-top-eq1 c =
     let x = c.args.register in
     let h : x / 2 ^ 23 < 2 = omega arith in
-    let t : bit_xor (x / 2 ^ 23) c.args.bit < 2 = xor_lt 1 (x / 2 ^ 23) c.args.bit h c.requires.is-bit in
+    let t : bit_xor (x / 2 ^ 23) c.args.bit < 2 = xor_lt 1 (x / 2 ^ 23) c.args.bit h c.requires.is_bit in
     record {
       fits = shifted_lt (x * 2 ^ 1 % 2 ^ 32);
       steps = step_none x c.args.bit (bit_and (x * 2 ^ 1 % 2 ^ 32) 0xffffff) c.requires.fits (omega (arith, c.if-top-eq1.false)) (shifted x c.requires.fits);

@@ -5,5 +5,5 @@ use Rattle.interleaver.proofs.deinterleave.Goals as goal
 pub returns : goal.returns
 returns c =
     deinterleave_front c.args.d (3 * c.args.d - 0) (omega arith) c.args.work.now c.args.side.now
-    c.copy-from-slice.new.self c.write-columns.new.block c.requires.work-holds c.copy-from-slice.ensures.after
-    (omega arith) c.write-columns.ensures
+    c.copy_from_slice.new.self c.write_columns.new.block c.requires.work_holds c.copy_from_slice.ensures.after
+    (omega arith) c.write_columns.ensures

@@ -1,10 +1,10 @@
 use Rattle.std.proofs.Common.{◌∙◌, arith}
 use Rattle.interleaver.proofs.Columns.{place, walk_below, walk_skips, write_more, written_all}
 use Rattle.interleaver.proofs.write_columns.Goals as goal
-use Rattle.interleaver.proofs.write_columns.Goals.{in-Some, in-default}
+use Rattle.interleaver.proofs.write_columns.Goals.{in-Some, in_default}
 
-pub copy-bit-requires : goal.copy-bit-requires
-copy-bit-requires c =
+pub copy_bit-requires : goal.copy_bit-requires
+copy_bit-requires c =
     let low = walk_below c.args.d c.holding-m.result.bits c.holding-m.ensures.bits c.loop-turn.turn c.loop-row.row
     c.loop-row.k (omega arith) (omega arith) c.args.word.now c.loop-row.block (place c.args.d) (λ j. j) c.loop-row.invariant
     c.in-Some.p c.in-Some.ensures in
@@ -12,15 +12,15 @@ copy-bit-requires c =
 
 pub loop-row-preserved : goal.loop-row-preserved
 loop-row-preserved c =
-    elim c.match-bit-at.branch [
-      | in-Some w ↦ rw (w.block-is ∙ w.copy-bit.ensures, w.k-is)
+    elim c.match-bit_at.branch [
+      | in-Some w ↦ rw (w.block-is ∙ w.copy_bit.ensures, w.k-is)
           (write_more c.args.d c.holding-m.result.bits c.holding-m.ensures.bits c.loop-turn.turn c.loop-row.row
           c.loop-row.k (omega arith) (omega arith) c.args.word.now c.loop-row.block (omega arith) c.loop-row.invariant
           w.in-Some.p w.in-Some.ensures)
-      | in-default w ↦ rw (w.block-is, w.k-is)
+      | in_default w ↦ rw (w.block-is, w.k-is)
           (walk_skips c.args.d c.holding-m.result.bits c.holding-m.ensures.bits c.loop-turn.turn c.loop-row.row
           c.loop-row.k (omega arith) (omega arith) c.args.word.now c.loop-row.block (place c.args.d) (λ j. j) c.loop-row.invariant
-          w.in-default.ensures)
+          w.in_default.ensures)
     ]
 
 pub returns : goal.returns

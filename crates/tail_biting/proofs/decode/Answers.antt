@@ -1,16 +1,16 @@
 use Rattle.tail_biting.specs.Codes.{decoded, not_decoded}
 use Rattle.tail_biting.proofs.decode.Goals as goal
 
-pub returns-then-not-is-zero : goal.returns-then-not-is-zero
-returns-then-not-is-zero c =
-    not_decoded c.args.n c.args.work.now c.args.side.now c.find-block.new.block c.add-word.new.out
-    c.requires.work-room c.requires.side-room c.find-block.ensures c.add-word.ensures
-    c.is-zero.result c.is-zero.ensures c.if-not-is-zero.true
-    c.add-word-then-not-is-zero.new.out c.clear-from.new.buffer c.add-word-then-not-is-zero.ensures c.clear-from.ensures
+pub returns-then-not-is_zero : goal.returns-then-not-is_zero
+returns-then-not-is_zero c =
+    not_decoded c.args.n c.args.work.now c.args.side.now c.find_block.new.block c.add_word.new.out
+    c.requires.work_room c.requires.side_room c.find_block.ensures c.add_word.ensures
+    c.is_zero.result c.is_zero.ensures c.if-not-is_zero.true
+    c.add_word-then-not-is_zero.new.out c.clear_from.new.buffer c.add_word-then-not-is_zero.ensures c.clear_from.ensures
 
 pub returns : goal.returns
 returns c =
-    decoded c.args.n c.args.work.now c.args.side.now c.find-block.new.block c.add-word.new.out
-    c.requires.work-room c.requires.side-room c.find-block.ensures c.add-word.ensures
-    c.is-zero.result c.is-zero.ensures c.if-not-is-zero.false
-    c.copy-from-slice.new.self c.clear-from-2.new.buffer c.copy-from-slice.ensures.after c.clear-from-2.ensures
+    decoded c.args.n c.args.work.now c.args.side.now c.find_block.new.block c.add_word.new.out
+    c.requires.work_room c.requires.side_room c.find_block.ensures c.add_word.ensures
+    c.is_zero.result c.is_zero.ensures c.if-not-is_zero.false
+    c.copy_from_slice.new.self c.clear_from-2.new.buffer c.copy_from_slice.ensures.after c.clear_from-2.ensures

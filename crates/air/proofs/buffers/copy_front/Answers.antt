@@ -6,9 +6,9 @@ pub returns : goal.returns
 returns c =
     let n = c.args.n in
     let from = c.args.from.now in
-    let copied : c.copy-from-slice.new.self ≡ take n from = search rules in
+    let copied : c.copy_from_slice.new.self ≡ take n from = search rules in
     record {
-      front = take_at c.copy-from-slice.new.self _ n (ap length copied ∙ length-take-le n from c.requires.1) ∙ copied;
+      front = take_at c.copy_from_slice.new.self _ n (ap length copied ∙ length-take-le n from c.requires.1) ∙ copied;
       after = search rules;
       long = c.requires.1;
     }

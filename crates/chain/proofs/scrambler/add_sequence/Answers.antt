@@ -12,8 +12,8 @@ loop-k-init c =
 pub loop-k-preserved : goal.loop-k-preserved
 loop-k-preserved c =
     let seed = c.args.seed in let k = c.loop-k.k in let bits = c.loop-k.bits in
-    let next : c.next-bit.result ≡ golden seed k = c.next-bit.ensures.bit ∙ c.loop-k.invariant.0 0 ∙ ap (golden seed) (omega arith) in (
-      (λ j. c.next-bit.ensures.rest j ∙ c.loop-k.invariant.0 (j + 1) ∙ ap (golden seed) (omega arith)),
+    let next : c.next_bit.result ≡ golden seed k = c.next_bit.ensures.bit ∙ c.loop-k.invariant.0 0 ∙ ap (golden seed) (omega arith) in (
+      (λ j. c.next_bit.ensures.rest j ∙ c.loop-k.invariant.0 (j + 1) ∙ ap (golden seed) (omega arith)),
       ap (λ (v : ℕ). set bits k (bit_xor (get_or bits k 0) v)) next ∙ added_more c.args.bits.now bits seed k c.loop-k-test.true c.loop-k.invariant.1,
     )
 

@@ -6,8 +6,8 @@ pub returns : goal.returns
 unfolding reference_bits
 returns c =
     simp (
-      c.copy-from-slice.ensures.after ∙ c.symbol-bits.ensures,
-      c.copy-from-slice-2.ensures.after ∙ c.symbol-bits-2.ensures,
-      c.copy-from-slice-3.ensures.after ∙ c.symbol-bits-3.ensures,
-      c.copy-from-slice-4.ensures.after ∙ c.symbol-bits-4.ensures,
+      c.copy_from_slice.ensures.after ∙ c.symbol_bits.ensures,
+      c.copy_from_slice-2.ensures.after ∙ c.symbol_bits-2.ensures,
+      c.copy_from_slice-3.ensures.after ∙ c.symbol_bits-3.ensures,
+      c.copy_from_slice-4.ensures.after ∙ c.symbol_bits-4.ensures,
     )

@@ -16,7 +16,7 @@ loop-place-preserved g c =
     let K = g.P.Point.kind in
     let xs = c.args.grid.now in
     let l = c.loop-place in
-    let next = c.next-place.ensures.place in
+    let next = c.next_place.ensures.place in
     let x = c.index-grid-place.result in
     let p = c.in-Some.place in
     let a = c.in-Some-pair.first in
@@ -41,17 +41,17 @@ loop-place-preserved g c =
       )
     ]
 
-pub returns-in-default-pair : goal.returns-in-default-pair
-returns-in-default-pair g c =
+pub returns-in_default-pair : goal.returns-in_default-pair
+returns-in_default-pair g c =
     let id = number_of c.args.identity in
     let h = c.of-shift.ensures in
-    read_none g.P.Point.kind (among Data id) c.args.grid.now c.loop-place.from _ (c.next-place.ensures.place id h)
+    read_none g.P.Point.kind (among Data id) c.args.grid.now c.loop-place.from _ (c.next_place.ensures.place id h)
     c.loop-place.out c.loop-place.n _ (c.loop-place.invariant.2 id h)
-    c.index-grid-place.result c.in-Some.place _ c.in-Some.is c.index-grid-place.is c.pair.ensures c.in-default-pair.is
+    c.index-grid-place.result c.in-Some.place _ c.in-Some.is c.index-grid-place.is c.pair.ensures c.in_default-pair.is
 
 pub returns : goal.returns
 returns g c =
     let id = number_of c.args.identity in
     let h = c.of-shift.ensures in
-    read_end g.P.Point.kind (among Data id) c.args.grid.now c.loop-place.from _ (c.next-place.ensures.place id h)
-    c.loop-place.out c.loop-place.n _ (c.loop-place.invariant.2 id h) c.in-default.is
+    read_end g.P.Point.kind (among Data id) c.args.grid.now c.loop-place.from _ (c.next_place.ensures.place id h)
+    c.loop-place.out c.loop-place.n _ (c.loop-place.invariant.2 id h) c.in_default.is

@@ -13,7 +13,7 @@ unfolding carrying
 returns g c =
     record {
       after =
-          c.put-pairs.ensures
-          ∙ ap (λ xs. laid (among Data (number_of c.args.identity)) 0 xs (points g.P.Point.kind c.args.bits.now)) c.write-idle.ensures;
+          c.put_pairs.ensures
+          ∙ ap (λ xs. laid (among Data (number_of c.args.identity)) 0 xs (points g.P.Point.kind c.args.bits.now)) c.write_idle.ensures;
       law = meets_rules g.P.Point.kind g.met.P.Point.lawful;
     }

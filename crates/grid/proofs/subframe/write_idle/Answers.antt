@@ -10,5 +10,5 @@ use Rattle.grid.proofs.subframe.write_idle.Goals as goal
 pub returns : goal.returns
 unfolding marked
 returns g c =
-    c.put-pairs.ensures
-    ∙ ap₂ (λ xs bits. laid (among Reference (number_of c.args.identity)) 0 xs (points g.P.Point.kind bits)) c.write-closed.ensures c.reference-bits-bits.ensures
+    c.put_pairs.ensures
+    ∙ ap₂ (λ xs bits. laid (among Reference (number_of c.args.identity)) 0 xs (points g.P.Point.kind bits)) c.write_closed.ensures c.reference_bits-bits.ensures

@@ -10,16 +10,16 @@ pub loop-slot-preserved : goal.loop-slot-preserved
 loop-slot-preserved g c = λ id h.
     fetch_more c.loop-slot.slot-index c.index-grid-place.result c.loop-slot.out _ _ _ (omega arith)
     (taken_more (among c.args.what id) c.args.grid.now c.index-grid-place.result c.loop-slot.from c.in-Some.place _
-    (c.next-place.ensures.place id h) c.in-Some.is c.index-grid-place.is)
+    (c.next_place.ensures.place id h) c.in-Some.is c.index-grid-place.is)
     (c.loop-slot.invariant id h)
 
-pub returns-in-default : goal.returns-in-default
-returns-in-default g c =
+pub returns-in_default : goal.returns-in_default
+returns-in_default g c =
     let id = number_of c.args.identity in
     let h = c.of-shift.ensures in
     set-get_or c.loop-slot.out c.loop-slot.slot-index c.slot-item.result
     ∙ fetch_end c.loop-slot.slot-index c.loop-slot.out _ _
-    (taken_end (among c.args.what id) c.args.grid.now c.loop-slot.from _ (c.next-place.ensures.place id h) c.in-default.is)
+    (taken_end (among c.args.what id) c.args.grid.now c.loop-slot.from _ (c.next_place.ensures.place id h) c.in_default.is)
     (c.loop-slot.invariant id h)
 
 pub returns : goal.returns

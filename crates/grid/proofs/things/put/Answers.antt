@@ -8,16 +8,16 @@ use Rattle.grid.proofs.things.put.Goals as goal
 pub loop-thing-preserved : goal.loop-thing-preserved
 loop-thing-preserved g c = λ id h.
     put_more (among c.args.what id) c.loop-thing.grid _ _ _ c.thing-item.result c.loop-thing.from c.in-Some.place _
-    (c.next-place.ensures.place id h) c.in-Some.is
+    (c.next_place.ensures.place id h) c.in-Some.is
     (left_more c.args.things.now c.loop-thing.thing-index c.thing-item.result c.loop-thing-test.true c.thing-item.is)
     (c.loop-thing.invariant id h)
 
-pub returns-in-default : goal.returns-in-default
-returns-in-default g c =
+pub returns-in_default : goal.returns-in_default
+returns-in_default g c =
     let id = number_of c.args.identity in
     let h = c.of-shift.ensures in
     record {
-      after = put_end (among c.args.what id) c.loop-thing.grid _ _ c.loop-thing.from _ (c.next-place.ensures.place id h) c.in-default.is (c.loop-thing.invariant id h);
+      after = put_end (among c.args.what id) c.loop-thing.grid _ _ c.loop-thing.from _ (c.next_place.ensures.place id h) c.in_default.is (c.loop-thing.invariant id h);
       law = keeps_things _;
     }
 

@@ -2,20 +2,20 @@ use Rattle.std.proofs.lemmas.Result.{err_from_is_err_and}
 use Rattle.tail_biting.specs.TailBites.{code_finds, code_lacks}
 use Rattle.tail_biting.proofs.TailBitingCodeStage.back.Goals as goal
 
-pub returns-in-err-decode : goal.returns-in-err-decode
-returns-in-err-decode c =
-    let p = err_from_is_err_and c.from-residual-in-err-decode.result c.from-residual-in-err-decode.ensures.1 in
-    let e = c.in-err-decode.ensures in
+pub returns-in_err-decode : goal.returns-in_err-decode
+returns-in_err-decode c =
+    let p = err_from_is_err_and c.from_residual-in_err-decode.result c.from_residual-in_err-decode.ensures.1 in
+    let e = c.in_err-decode.ensures in
     rw (p.1, p.2)
     (code_lacks c.args.n c.args.s c.args.work.now c.args.side.now c.length-m.result c.length-m.ensures
-    c.covers.result c.covers.ensures c.in-ok-admit-back.ensures
+    c.covers.result c.covers.ensures c.in_ok-admit_back.ensures
     c.decode.new.work c.drop-guard.new.self.0 c.decode.new.side c.decode.auto.side c.drop-guard.ensures
-    c.in-err-decode.field-0.0 e.0 e.1 e.2)
+    c.in_err-decode.field-0.0 e.0 e.1 e.2)
 
 pub returns : goal.returns
 returns c =
-    let e = c.in-ok-decode.ensures in
+    let e = c.in_ok-decode.ensures in
     code_finds c.args.n c.args.s c.args.work.now c.args.side.now c.length-m.result c.length-m.ensures
-    c.covers.result c.covers.ensures c.in-ok-admit-back.ensures
+    c.covers.result c.covers.ensures c.in_ok-admit_back.ensures
     c.decode.new.work c.drop-guard-2.new.self.0 c.decode.new.side c.decode.auto.side c.drop-guard-2.ensures
     e.0 e.1

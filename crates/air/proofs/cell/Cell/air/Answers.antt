@@ -9,8 +9,8 @@ use Rattle.air.proofs.Tabled.{fitting_is, kept_next, fitting-next}
 use Rattle.air.proofs.Writing.{airs_data, part_in}
 use Rattle.air.proofs.cell.Cell.air.Goals as goal
 
-pub invariant-of-self : goal.invariant-of-self
-invariant-of-self g c =
+pub invariant_of-self : goal.invariant_of-self
+invariant_of-self g c =
     let self = c.args.self.now in
     let course = c.in-Some.course in
     let kept = (fitting_is (g.S.Stage.meaning self.chain) self.pending course c.in-Some.ensures).0 in
@@ -24,14 +24,14 @@ returns g c =
     let K = g.P.Point.kind in
     let cell : CellState = cell_of g.S.Stage.meaning self in
     let fit = (fitting_is m self.pending course c.in-Some.ensures).1 in
-    let airs_is = airs_data K cell (sending_of self.block course) (sym c.is-open.ensures ∙ c.if-not-is-open.false)
+    let airs_is = airs_data K cell (sending_of self.block course) (sym c.is_open.ensures ∙ c.if-not-is_open.false)
     (ap (option_map (sending_of self.block)) c.in-Some.ensures) in
     record {
       answer = ap Ok c.data.ensures ∙ ap (λ (w : Written g.row.P.Denot). Ok w.answer) airs_is;
-      grid = c.write-data.ensures.after
+      grid = c.write_data.ensures.after
           ∙ ap₂ (λ (n : ℕ) (b : List ℕ). carrying K n cell.identity cell.time.subframe b) c.requires.whole
-          (part_in course.grant.subframes (part_due (going_of course)) c.part-start-from.result c.encode.new.work
-          c.part-start-from.ensures.value c.part-start-from.ensures.within
+          (part_in course.grant.subframes (part_due (going_of course)) c.part_start-from.result c.encode.new.work
+          c.part_start-from.ensures.value c.part_start-from.ensures.within
           ∙ ap (part_of (part_due (going_of course))) c.encode.ensures.word)
           ∙ ap (λ (w : Written g.row.P.Denot). w.grid) airs_is;
       cell = ap (with_pending cell) (fitting-next m self.block course c.advanced-self.result fit c.advanced-self.ensures ∙ ap (λ (w : Written g.row.P.Denot). w.pending) airs_is);

@@ -10,11 +10,11 @@ returns-in-Ok g c =
     let is =
     block_decoded _ (g.met.S.Stage.lawful c.args.self.now.chain) c.args.course c.requires.fits n.result _ _ _ n.ensures.value
     c.output-output.ensures.value c.seed-seed.ensures.value c.output-output.ensures.most c.seed-seed.ensures.most
-    c.args.self.now.word c.args.work.now c.copy-front.new.to c.args.side.now c.back.new.work c.back.new.side long
-    (omega (arith, c.copy-front.auto.to, c.requires.roomy.0)) c.requires.roomy.1 c.copy-front.ensures.after _ c.in-Ok.ensures in
+    c.args.self.now.word c.args.work.now c.copy_front.new.to c.args.side.now c.back.new.work c.back.new.side long
+    (omega (arith, c.copy_front.auto.to, c.requires.roomy.0)) c.requires.roomy.1 c.copy_front.ensures.after _ c.in-Ok.ensures in
     record {
       found = sym (ap is_some is);
-      block = c.copy-front-in-Ok.ensures.after
+      block = c.copy_front-in-Ok.ensures.after
           ∙ ap (λ (k : ℕ). take n.result c.back.new.work ++ drop k c.args.block.now) n.ensures.value
           ∙ sym (ap (λ (o : Option (List ℕ)). filled o c.args.course.grant.length c.args.block.now) is);
     }
@@ -26,8 +26,8 @@ returns-in-Err g c =
     let is =
     block_spoiled _ (g.met.S.Stage.lawful c.args.self.now.chain) c.args.course c.requires.fits n.result _ _ _ n.ensures.value
     c.output-output.ensures.value c.seed-seed.ensures.value c.output-output.ensures.most c.seed-seed.ensures.most
-    c.args.self.now.word c.args.work.now c.copy-front.new.to c.args.side.now c.back.new.work c.back.new.side long
-    (omega (arith, c.copy-front.auto.to, c.requires.roomy.0)) c.requires.roomy.1 c.copy-front.ensures.after _ c.in-Err.ensures in
+    c.args.self.now.word c.args.work.now c.copy_front.new.to c.args.side.now c.back.new.work c.back.new.side long
+    (omega (arith, c.copy_front.auto.to, c.requires.roomy.0)) c.requires.roomy.1 c.copy_front.ensures.after _ c.in-Err.ensures in
     record {
       found = sym (ap is_some is);
       block = sym (ap (λ (o : Option (List ℕ)). filled o c.args.course.grant.length c.args.block.now) is);

@@ -6,7 +6,7 @@ pub returns : goal.returns
 returns c =
     let from = c.args.from in
     let table = c.args.table.now in
-    let ys = c.copy-from-slice.new.self in
+    let ys = c.copy_from_slice.new.self in
     take-put_mid from (from + 320 - from) table ys (from + 320)
-    (omega (arith, ap length c.copy-from-slice.ensures.after, c.requires.1)) (omega (arith, c.told-table, c.requires.0))
-    ∙ ap (λ (v : List ℕ). take from table ++ v) c.copy-from-slice.ensures.after
+    (omega (arith, ap length c.copy_from_slice.ensures.after, c.requires.1)) (omega (arith, c.told-table, c.requires.0))
+    ∙ ap (λ (v : List ℕ). take from table ++ v) c.copy_from_slice.ensures.after

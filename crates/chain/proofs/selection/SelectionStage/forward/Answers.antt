@@ -5,6 +5,6 @@ use Rattle.chain.proofs.selection.SelectionStage.forward.Goals as goal
 pub returns : goal.returns
 returns c =
     select_forward c.args.n c.args.s c.args.work.now c.args.side.now c.length-m.result c.length-m.ensures
-    c.in-ok-admit-forward.ensures (c.length-m.result - 0) (omega arith)
-    c.repeat.new.bits c.clear-from.new.buffer c.drop-guard.new.self.0
-    c.repeat.ensures c.clear-from.ensures c.drop-guard.ensures
+    c.in_ok-admit_forward.ensures (c.length-m.result - 0) (omega arith)
+    c.repeat.new.bits c.clear_from.new.buffer c.drop-guard.new.self.0
+    c.repeat.ensures c.clear_from.ensures c.drop-guard.ensures

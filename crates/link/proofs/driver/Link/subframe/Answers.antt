@@ -13,14 +13,14 @@ returns g c =
     let side = c.args.side.now in
     let grid = c.args.grid.now in
     let last = c.air.new in
-    let aired = c.in-ok-aired.ensures in
+    let aired = c.in_ok-aired.ensures in
     let heard = c.hear-heard.ensures in
     let l = link_of g.S.Stage.meaning self in
     let on = heard_on K l work side self.block grid aired.refusal (link_of g.S.Stage.meaning last.self) last.work last.side
     last.self.block last.grid aired.link aired.work aired.side aired.block aired.grid in
     record {
       refusal = aired.refusal;
-      answer = ap₂ (λ a h. Ok (record { aired = a; heard = h })) (ap (λ r. result_unwrap_or r c.in-ok-aired.aired) aired.answer)
+      answer = ap₂ (λ a h. Ok (record { aired = a; heard = h })) (ap (λ r. result_unwrap_or r c.in_ok-aired.aired) aired.answer)
           (on.answers c.hear-heard.result heard.refusal heard.answer);
       grid = aired.grid;
       link = heard.link ∙ on.links;
