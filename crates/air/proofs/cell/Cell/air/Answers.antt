@@ -14,7 +14,7 @@ invariant_of-self g c =
     let self = c.args.self.now in
     let course = c.in-Some.course in
     let kept = (fitting_is (g.S.Stage.meaning self.chain) self.pending course c.in-Some.ensures).0 in
-    (kept_next self.block course c.advanced-self.result c.advanced-self.ensures (sym (ap (kept_bits self.block) kept) ∙ self.bits), tt)
+    record { bits = kept_next self.block course c.advanced-self.result c.advanced-self.ensures (sym (ap (kept_bits self.block) kept) ∙ self.bits) }
 
 pub returns : goal.returns
 returns g c =
