@@ -1,8 +1,7 @@
 -- What a subframe is to a terminal, and what is heard of it. Assumes nothing.
-use Rattle.std.proofs.Common.{◌≡◌, ℕ, ◌-◌, ◌≤◌, Bool, true, false, cond, not, ◌&&◌, List, [], ◌∷◌, length, take, Some, None, Option, unwrap_or, sym, refl, ap, ◌∙◌, ap₂, arith}
+use Rattle.std.proofs.Common.{◌≡◌, ℕ, ◌≤◌, Bool, true, false, cond, not, ◌&&◌, List, [], ◌∷◌, length, Some, None, Option, unwrap_or, sym, refl, ap, ◌∙◌, ap₂, arith}
 use Rattle.std.specs.Option.{option_map}
 use Rattle.std.proofs.lemmas.Bool.{ltb-false}
-use Rattle.stage.specs.Bits.{zeros, padded}
 use Rattle.stage.specs.Meaning.{Meaning}
 use Rattle.stage.specs.Refusals.{first_fault}
 use Rattle.calendar.specs.declared.course.Course.{Course}

@@ -7,7 +7,7 @@ use Rattle.stage.specs.declared.fault.StageFault.TheVariants.{ShortBuffer as Sta
 use Rattle.stage.specs.declared.setting.Setting.{Setting}
 use Rattle.stage.specs.Bits.{binary}
 use Rattle.stage.specs.Calls.{word_length}
-use Rattle.stage.specs.Meaning.{Meaning, word}
+use Rattle.stage.specs.Meaning.{Meaning}
 use Rattle.stage.specs.Refusals.{first_fault, short, ranged, forward_tests}
 use Rattle.stage.proofs.Opened.{passed, first_none}
 use Rattle.calendar.specs.declared.fault.GrantFault.{GrantFault}

@@ -5,7 +5,6 @@ use Rattle.stage.specs.Refusals.{ranged}
 use Rattle.calendar.specs.declared.grant.Grant.{Grant}
 use Rattle.calendar.specs.Grants.{count_allowed, output}
 use Rattle.calendar.proofs.Counting.{count_some, count_most}
-use Rattle.calendar.proofs.Rules.{allowed}
 
 -- the setting of an allowed grant is in range
 pub in_range : (g : Grant) (seed : ℕ) → count_allowed g ≡ true → seed < 2 ^ 31 → ranged (record { output = output g; seed = seed }) ≡ true

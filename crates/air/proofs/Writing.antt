@@ -2,7 +2,6 @@
 use Rattle.std.proofs.Common.{◌≡◌, ℕ, ◌+◌, ◌-◌, ◌*◌, ◌≤◌, Bool, true, false, not, eqb, List, [], ◌∷◌, take, drop, Some, None, Ok, Option, Result, sym, ap, ◌∙◌, ap₂, arith}
 use Rattle.std.proofs.lemmas.Bool.{not-true}
 use Rattle.std.proofs.lemmas.List.{drop-take, take-take}
-use Rattle.stage.specs.Meaning.{word}
 use Rattle.stage.specs.Refusals.{first_fault, short}
 use Rattle.point.specs.Kinds.{Kind}
 use Rattle.calendar.specs.Times.{closed}

@@ -1,5 +1,5 @@
 -- What a cell on air is, and what its calls answer and leave. Assumes nothing.
-use Rattle.std.specs.Prelude.{ℕ, ◌*◌, Bool, true, false, cond, eqb, List, take, drop, Some, None, Option}
+use Rattle.std.specs.Prelude.{ℕ, ◌*◌, Bool, true, false, List, take, drop, Some, None, Option}
 use Rattle.std.specs.Option.{option_map}
 use Rattle.stage.specs.Meaning.{Meaning, word}
 use Rattle.point.specs.Kinds.{Kind}

@@ -1,20 +1,19 @@
 -- The built_in chain in plain numbers. Assumes nothing.
-use Rattle.std.proofs.Common.{◌≡◌, ℕ, ◌+◌, ◌*◌, ◌/◌, ◌%◌, ◌^◌, ◌<◌, ◌≤◌, Bool, true, false, cond, ◌&&◌, eqb, ltb, leb, List, ◌++◌, length, sym, refl, ap, ◌∙◌, subst, ap₂, inl, inr, ⊎_elim, arith}
-use Rattle.std.proofs.lemmas.Bool.{and_parts, and_cases, ltb-true, ltb-false, leb-true, leb-false, cases_Bool}
+use Rattle.std.proofs.Common.{◌≡◌, ℕ, ◌+◌, ◌*◌, ◌/◌, ◌^◌, ◌<◌, ◌≤◌, Bool, true, false, cond, ◌&&◌, ltb, leb, List, ◌++◌, sym, refl, ap, ◌∙◌, subst, ap₂, arith}
+use Rattle.std.proofs.lemmas.Bool.{and_parts, ltb-true, leb-true}
 use Rattle.std.proofs.lemmas.Bool.Decides.{nat_tests}
-use Rattle.stage.specs.declared.setting.Setting.{Setting}
 use Rattle.stage.specs.Bits.{Bits, xor}
 use Rattle.stage.specs.Gather.{gathered}
-use Rattle.stage.specs.Meaning.{Meaning, Lawful, word, paired}
-use Rattle.stage.specs.Paired.{paired_lawful, word-paired, word_bits}
+use Rattle.stage.specs.Meaning.{Lawful, word, paired}
+use Rattle.stage.specs.Paired.{paired_lawful, word-paired}
 use Rattle.gold.specs.Sequence.{sequence}
 use Rattle.stage.specs.Ranges.{within}
 use Rattle.check_bits.specs.Checking.{checking, check_bits_of}
-use Rattle.tail_biting.specs.Coding.{codable, coding, coded}
-use Rattle.interleaver.specs.Interleaving.{three_streams, interleaving, triple}
+use Rattle.tail_biting.specs.Coding.{coding, coded}
+use Rattle.interleaver.specs.Interleaving.{interleaving, triple}
 use Rattle.chain.specs.Selecting.{selecting, ring}
 use Rattle.chain.specs.Scrambling.{scrambling}
-use Rattle.chain.specs.Chained.{chained, sendable, InNumbers, ChainStands}
+use Rattle.chain.specs.Chained.{chained, sendable, ChainStands}
 use Rattle.check_bits.specs.Checks.{checking_lawful, checked_word}
 use Rattle.tail_biting.specs.TailBites.{coding_lawful, coded-word}
 use Rattle.interleaver.specs.Interleaves.{interleaving_lawful, interleaved_word}

@@ -1,11 +1,11 @@
 -- The scrambler is lawful, and what its calls leave. Assumes nothing.
-use Rattle.std.specs.Prelude.{◌≡◌, ℕ, ◌+◌, ◌<◌, ◌≤◌, Bool, true, false, cond, ◌&&◌, List, [], ◌∷◌, ◌++◌, length, take, drop, None, Ok, bit_xor, slice_index, slice_set, refl}
-use Rattle.std.proofs.Common.{sym, ap, ap₂, subst, ◌∙◌, arith}
+use Rattle.std.specs.Prelude.{◌≡◌, ℕ, ◌+◌, ◌<◌, ◌≤◌, Bool, true, cond, ◌&&◌, List, ◌++◌, length, take, drop, None, Ok, bit_xor, slice_index, slice_set, refl}
+use Rattle.std.proofs.Common.{sym, ap, subst, ◌∙◌, arith}
 use Rattle.std.proofs.lemmas.Bool.{and_parts}
 use Rattle.std.proofs.lemmas.List.{length-take-le}
 use Rattle.stage.specs.declared.setting.Setting.{Setting}
-use Rattle.stage.specs.Bits.{binary, Bits, xor, zeros, padded}
-use Rattle.stage.specs.Meaning.{Lawful, word}
+use Rattle.stage.specs.Bits.{Bits, xor, zeros, padded}
+use Rattle.stage.specs.Meaning.{Lawful}
 use Rattle.stage.specs.Refusals.{first_fault, forward_tests, back_tests}
 use Rattle.stage.specs.Calls.{word_length, covering, Forward, Back}
 use Rattle.stage.specs.Xors.{xor_nil, xor_more, xor_back, xor_bits, length_xor_same}

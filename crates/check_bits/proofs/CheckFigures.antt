@@ -1,5 +1,5 @@
 -- Figures of the check bits, at every length. Assumes nothing.
-use Rattle.std.proofs.Common.{◌≡◌, ℕ, zero, suc, List, [], ◌∷◌, ◌++◌, refl, ◌∙◌}
+use Rattle.std.proofs.Common.{◌≡◌, ℕ, zero, suc, [], ◌∷◌, ◌++◌, refl, ◌∙◌}
 use Rattle.stage.specs.Bits.{zeros}
 use Rattle.check_bits.specs.Checking.{check_bits_of, to_bits}
 use Rattle.check_bits.specs.Division.{low, register, check_bits_is}

@@ -1,13 +1,13 @@
 -- The register of 24 bits as a number. Assumes nothing.
-use Rattle.std.proofs.Common.{◌≡◌, ℕ, zero, suc, ◌+◌, ◌-◌, ◌*◌, ◌/◌, ◌%◌, ◌^◌, ◌<◌, ◌≤◌, List, [], ◌∷◌, ◌++◌, map, length, get_or, sym, refl, ap, ◌∙◌, ap₂, mod-eq_of_lt, arith, length-append}
+use Rattle.std.proofs.Common.{◌≡◌, ℕ, zero, suc, ◌+◌, ◌-◌, ◌*◌, ◌/◌, ◌%◌, ◌^◌, ◌<◌, ◌≤◌, List, [], ◌∷◌, ◌++◌, map, get_or, sym, refl, ap, ◌∙◌, ap₂, mod-eq_of_lt, arith, length-append}
 use lib.Bits.{bit_and, bit_xor}
 use Rattle.std.specs.List.{range_with_len}
 use Rattle.std.proofs.lemmas.List.FromFn.{get_or-map-range_with_len}
 use Rattle.std.proofs.lemmas.Nat.{xor_shr, xor_mod, shr-shr, shl-shr, field_of, mod-pow-add, and_mask}
-use Rattle.stage.specs.Bits.{xor, zeros}
+use Rattle.stage.specs.Bits.{xor}
 use Rattle.stage.specs.Xors.{cons_same, xor_comm, zeros-xor}
 use Rattle.check_bits.specs.Checking.{scaled, check_bits_of, taken_in, to_bits}
-use Rattle.check_bits.specs.Division.{low, stepped, register, check_bits_is, taken_in_is}
+use Rattle.check_bits.specs.Division.{low, register, check_bits_is, taken_in_is}
 
 to_bits_xor : (k x y : ℕ) → to_bits k (bit_xor x y) ≡ xor (to_bits k x) (to_bits k y)
 unfolding to_bits

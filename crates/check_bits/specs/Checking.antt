@@ -1,6 +1,6 @@
 -- Check bits: a block, and behind it the remainder of block × D^24 by the generator. A polynomial over the field of two elements
 -- is the list of its coefficients, the highest power first: so p ++ r is p × D^k + r, where r has k coefficients. Assumes nothing.
-use Rattle.std.specs.Prelude.{◌≡◌, ℕ, zero, suc, ◌+◌, ◌/◌, ◌%◌, ◌^◌, Bool, true, cond, ◌&&◌, List, [], ◌∷◌, ◌++◌, length, ◌==◌, nat_le, nat_lt}
+use Rattle.std.specs.Prelude.{◌≡◌, ℕ, zero, suc, ◌+◌, ◌/◌, ◌%◌, ◌^◌, true, cond, ◌&&◌, List, [], ◌∷◌, ◌++◌, length, ◌==◌, nat_le, nat_lt}
 use Rattle.stage.specs.Bits.{binary, Bits, xor, zeros}
 use Rattle.stage.specs.Meaning.{Meaning}
 use Rattle.stage.specs.Ranges.{within}

@@ -1,14 +1,14 @@
 -- Long division by D^k + p as the steps of a register, its remainder, and that there is only one. Assumes nothing.
 use Rattle.std.specs.Prelude.{◌≡◌, ℕ, zero, suc, ◌+◌, ◌<◌, ◌≤◌, true, List, [], ◌∷◌, ◌++◌, length, bit_xor, refl}
-use Rattle.std.proofs.Common.{sym, ap, ap₂, subst, ◌∙◌, arith, length-append}
+use Rattle.std.proofs.Common.{sym, ap, ap₂, ◌∙◌, arith, length-append}
 use Rattle.std.specs.Int.Bits.{xor_zero_r}
 use Rattle.std.proofs.lemmas.Nat.{xor_comm as bit_comm, xor_lt}
 use Rattle.std.proofs.lemmas.List.{length-replicate}
 use Rattle.std.proofs.ByRecursion.{All-append}
-use Rattle.stage.specs.Bits.{binary, Bits, xor, zeros}
-use Rattle.stage.specs.Xors.{cons_same, xor_comm, xor_assoc, xor_medial, bit_medial, xor_self, zeros-xor, xor-zeros, xor_twice, xor-append, length-xor, length_xor_same, binary-xor}
+use Rattle.stage.specs.Bits.{binary, xor, zeros}
+use Rattle.stage.specs.Xors.{cons_same, xor_assoc, xor_medial, bit_medial, xor_self, zeros-xor, xor-zeros, xor_twice, xor-append, length-xor, length_xor_same, binary-xor}
 use Rattle.stage.proofs.Binary.{Small, small_from, binary_small, binary-zeros}
-use Rattle.check_bits.specs.Checking.{generator, scaled, product, Remainder, divided, check_bits_of, CheckBitsStand, taken_in}
+use Rattle.check_bits.specs.Checking.{generator, scaled, product, divided, check_bits_of, CheckBitsStand, taken_in}
 
 length-zeros : (n : ℕ) → length (zeros n) ≡ n
 length-zeros n = length-replicate {A = ℕ} n 0

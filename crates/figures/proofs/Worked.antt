@@ -1,5 +1,5 @@
 -- The figures hold, each by its definition or by the theorem at every length. Assumes nothing.
-use Rattle.std.proofs.Common.{◌≡◌, ℕ, ◌+◌, ◌-◌, List, [], ◌∷◌, ◌++◌, sym, refl, ap, ◌∙◌, ap₂, arith}
+use Rattle.std.proofs.Common.{◌≡◌, ℕ, ◌+◌, ◌-◌, [], ◌∷◌, ◌++◌, refl, ap, ◌∙◌, arith}
 use Rattle.stage.specs.Bits.{zeros}
 use Rattle.tail_biting.specs.Coding.{stream, taps_of}
 use Rattle.check_bits.proofs.CheckFigures.{zero_check, last_check}

@@ -1,15 +1,15 @@
 -- The data subframes of a grant, one by one, and how those of two blocks differ. Assumes nothing.
-use Rattle.std.proofs.Common.{◌≡◌, ℕ, zero, suc, ◌+◌, ◌*◌, ◌^◌, ◌<◌, ◌≤◌, Bool, true, false, cond, eqb, List, [], ◌∷◌, ◌++◌, length, take, drop, is_some, Some, None, Option, sym, refl, ap, ◌∙◌, subst, ap₂, subst₂, arith}
+use Rattle.std.proofs.Common.{◌≡◌, ℕ, zero, suc, ◌*◌, ◌^◌, ◌<◌, ◌≤◌, Bool, true, false, cond, eqb, List, [], ◌∷◌, ◌++◌, length, take, drop, is_some, Some, None, Option, sym, refl, ap, ◌∙◌, subst, ap₂, subst₂, arith}
 use lib.Bits.{bit_xor}
 use Rattle.std.proofs.lemmas.Bool.{both_ways}
-use Rattle.stage.specs.Bits.{Bits, xor, zeros}
+use Rattle.stage.specs.Bits.{Bits, xor}
 use Rattle.stage.specs.Meaning.{Meaning, Lawful, word}
 use Rattle.stage.specs.Xors.{xor_nil, xor_medial, xor_self, xor-zeros, length_xor_same}
 use Rattle.point.specs.Kinds.{Kind, LawfulKind}
 use Rattle.grid.specs.Grids.{aired_bits}
 use Rattle.calendar.specs.declared.time.Time.{Time}
 use Rattle.calendar.specs.declared.grant.Grant.{Grant}
-use Rattle.calendar.specs.Grants.{part_bits, output}
+use Rattle.calendar.specs.Grants.{output}
 use Rattle.calendar.specs.Rounds.{owed, part_at, seed_at}
 use Rattle.calendar.specs.Times.{after, closed, next_open, open_at}
 use Rattle.calendar.specs.Courses.{begun}
@@ -17,9 +17,9 @@ use Rattle.calendar.proofs.Openings.{open_here, next_past, opens_first}
 use Rattle.air.specs.declared.fault.EndFault.{EndFault}
 use Rattle.air.specs.Ends.{End}
 use Rattle.air.specs.Refusals.{settled, offer_refusal, subframe_refusal, end_refusal}
-use Rattle.air.specs.Cells.{CellState, Sending, written, airs, one_sent, offered, with_pending, stepped, sent_bits, part_of}
-use Rattle.link.specs.Calls.{Call, offer, subframe, withdraw, called}
-use Rattle.link.specs.Differences.{InRange, Aired, data_grid, aired_by, airing, Alike, BothLast, At, DifferencesShow}
+use Rattle.air.specs.Cells.{CellState, Sending, written, airs, one_sent, offered, stepped, part_of}
+use Rattle.link.specs.Calls.{Call, offer, subframe, withdraw}
+use Rattle.link.specs.Differences.{Aired, data_grid, airing, Alike, BothLast, At, DifferencesShow}
 use Rattle.link.proofs.Passing.{offer_passes}
 use Rattle.link.proofs.Mirrored.{Lasts, next, sent_next, lasts_next, sized, seeded}
 use Rattle.link.proofs.Homecoming.{carried, sending_new, lasts_new}

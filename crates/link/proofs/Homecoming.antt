@@ -1,8 +1,8 @@
 -- After every list of calls, the terminal and the account are what the cell makes them. Assumes nothing.
-use Rattle.std.proofs.Common.{◌≡◌, ℕ, ◌*◌, ◌≤◌, Bool, true, false, cond, not, ◌&&◌, eqb, ltb, leb, List, [], ◌∷◌, ◌++◌, length, take, is_some, IfSome, Some, None, Option, unwrap_or, sym, refl, ap, ◌∙◌, subst, ap₂, subst₂, arith}
+use Rattle.std.proofs.Common.{◌≡◌, ℕ, ◌*◌, ◌≤◌, Bool, true, false, cond, not, ◌&&◌, eqb, leb, List, [], ◌∷◌, ◌++◌, length, take, is_some, IfSome, Some, None, Option, unwrap_or, sym, refl, ap, ◌∙◌, subst, ap₂, subst₂, arith}
 use Rattle.std.proofs.lemmas.Bool.{and_parts, and_right, not-false, leb-true, both_ways}
 use Rattle.std.proofs.lemmas.List.{append-nil, append_assoc, length-take-le}
-use Rattle.stage.specs.Bits.{binary, Bits}
+use Rattle.stage.specs.Bits.{binary}
 use Rattle.stage.specs.Meaning.{Meaning, Lawful}
 use Rattle.stage.specs.Refusals.{short}
 use Rattle.stage.proofs.Binary.{binary-at}
@@ -20,16 +20,16 @@ use Rattle.calendar.proofs.Openings.{after_small}
 use Rattle.air.specs.declared.fault.EndFault.{EndFault}
 use Rattle.air.specs.declared.fault.EndFault.TheVariants.{ShortBuffer, GridSize, ShortBlock, NoPair}
 use Rattle.air.specs.Ends.{End}
-use Rattle.air.specs.Refusals.{settled, grant_tests, offer_refusal, subframe_refusal, end_refusal}
+use Rattle.air.specs.Refusals.{settled, grant_tests, offer_refusal, end_refusal}
 use Rattle.air.specs.Cells.{CellState, Sending, written, airs, one_sent, offered, with_pending, sent_bits, is_covered}
 use Rattle.air.specs.Terminals.{TerminalState, Awaiting, awaited_length, short_block, due, expecting, hear_refusal, hears, heard, hearing}
 use Rattle.air.proofs.Ordered.{Passes}
 use Rattle.link.specs.Calls.{Call, offer, subframe, withdraw, refusal, turned_down, accepting}
-use Rattle.link.specs.Account.{Account, Note, ticking, booking, booked, opened}
+use Rattle.link.specs.Account.{Account, ticking, booking, booked, opened}
 use Rattle.link.specs.Following.{LinkState, Buffers, on_air, told, forgot, handed_at, hearkens, following, linked_on, handed_on, Serves}
 use Rattle.link.specs.Home.{Run, handed_over, Served, accounted, BlocksComeHome}
 use Rattle.link.proofs.Passing.{none_fails, offer_passes, expect_accepts, size_passed, length_most, long_enough}
-use Rattle.link.proofs.Mirrored.{Lasts, word_at, mirror, awaiting, note_of, noting, next, sent_next, lasts_next, noted_next, sent_is, Right, right, joins_is, uncovered_next, uncovered_joins}
+use Rattle.link.proofs.Mirrored.{Lasts, word_at, mirror, awaiting, noting, next, sent_next, lasts_next, noted_next, sent_is, Right, right, joins_is, uncovered_next, uncovered_joins}
 
 -- ---- what holds between calls
 

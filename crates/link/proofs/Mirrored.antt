@@ -1,5 +1,5 @@
 -- A terminal that has followed a cell hears its subframe as the account ticks it. Assumes nothing.
-use Rattle.std.proofs.Common.{◌≡◌, ℕ, zero, suc, ◌+◌, ◌-◌, ◌*◌, ◌%◌, ◌^◌, ◌<◌, ◌≤◌, Bool, true, false, cond, not, ◌&&◌, eqb, List, [], ◌∷◌, ◌++◌, length, take, drop, Some, None, Option, sym, refl, ap, ◌∙◌, subst, ap₂, suc-add, zero-add, arith}
+use Rattle.std.proofs.Common.{◌≡◌, ℕ, zero, suc, ◌+◌, ◌*◌, ◌^◌, ◌<◌, ◌≤◌, Bool, true, false, cond, ◌&&◌, eqb, List, [], ◌∷◌, ◌++◌, length, take, drop, Some, None, Option, sym, refl, ap, ◌∙◌, subst, ap₂, suc-add, zero-add, arith}
 use Rattle.std.specs.Option.{option_map}
 use Rattle.std.proofs.lemmas.Bool.{eqb-true, eqb-false}
 use Rattle.std.proofs.lemmas.List.{length-take-le, length-drop, take_all, take_at}
@@ -7,18 +7,16 @@ use Rattle.stage.specs.Bits.{Bits}
 use Rattle.stage.specs.Meaning.{Meaning, Lawful, word}
 use Rattle.stage.proofs.Binary.{binary-take, binary-drop}
 use Rattle.stage.specs.Paired.{word_bits}
-use Rattle.calendar.specs.declared.time.Time.{Time}
 use Rattle.calendar.specs.declared.grant.Grant.{Grant}
 use Rattle.calendar.specs.Grants.{part_bits, output}
 use Rattle.calendar.specs.Rounds.{copies, whole, owed, part_at, first_copy, last_part, seed_at}
 use Rattle.calendar.specs.Courses.{Going, one_on}
 use Rattle.calendar.proofs.Counting.{Few, reads, seed_first, reads_now, reads-next, reads_same, part_below, last_gone}
 use Rattle.calendar.proofs.Rounds.{seed_small}
-use Rattle.air.specs.declared.answers.Outcome.TheVariants.{Part, Block, Repeat}
 use Rattle.air.specs.Cells.{Sending, part_of, sent_bits, one_sent}
 use Rattle.air.specs.Terminals.{Awaiting, Hearing, one_heard, finished, reading, block_of}
 use Rattle.air.proofs.Found.{found_own}
-use Rattle.link.specs.Account.{Note, complete, ticks, completes, joins, noted_on}
+use Rattle.link.specs.Account.{Note, completes, joins, noted_on}
 use Rattle.link.specs.Following.{handed_at}
 use Rattle.link.proofs.Ticking.{ticked_after, completing}
 

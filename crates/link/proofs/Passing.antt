@@ -1,5 +1,5 @@
 -- Tests in rising number: a call is accepted where each of them says false. Assumes nothing.
-use Rattle.std.proofs.Common.{◌≡◌, ℕ, ◌≤◌, Bool, true, false, not, ◌&&◌, ◌||◌, eqb, ltb, leb, List, [], ◌∷◌, ◌++◌, length, take, None, sym, refl, ap, arith}
+use Rattle.std.proofs.Common.{◌≡◌, ℕ, ◌≤◌, Bool, true, false, not, ◌&&◌, eqb, ltb, leb, List, [], ◌∷◌, ◌++◌, length, take, None, sym, refl, ap, arith}
 use Rattle.std.proofs.lemmas.Bool.{and_parts, or_parts, both_ways, not-false, leb-true, eqb-true, ltb-false}
 use Rattle.stage.specs.declared.fault.StageFault.TheVariants.{NotBits, NotCovering}
 use Rattle.stage.specs.Bits.{binary}

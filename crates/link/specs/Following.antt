@@ -1,6 +1,5 @@
 -- A cell and the terminal that follows it, call by call. Assumes nothing.
-use Rattle.std.specs.Prelude.{◌≡◌, ℕ, Bool, false, cond, List, [], ◌∷◌, length, take, is_some, Some, None, Option}
-use Rattle.stage.specs.Bits.{zeros}
+use Rattle.std.specs.Prelude.{◌≡◌, ℕ, false, cond, List, [], ◌∷◌, length, take, is_some, None, Option}
 use Rattle.stage.specs.Meaning.{Meaning}
 use Rattle.stage.specs.Refusals.{short}
 use Rattle.point.specs.Kinds.{Kind}
@@ -13,7 +12,7 @@ use Rattle.air.specs.declared.fault.EndFault.{EndFault}
 use Rattle.air.specs.Ends.{End}
 use Rattle.air.specs.Refusals.{settled, expect_refusal, end_refusal, subframe_refusal}
 use Rattle.air.specs.Cells.{CellState, airs, is_covered}
-use Rattle.air.specs.Terminals.{TerminalState, Awaiting, awaited_length, short_block, expecting, with_awaited, hear_refusal, hears, heard}
+use Rattle.air.specs.Terminals.{TerminalState, awaited_length, short_block, expecting, with_awaited, hear_refusal, hears, heard}
 use Rattle.air.specs.TerminalViews.{tuned}
 use Rattle.link.specs.Calls.{Call, offer, subframe, withdraw, turned_down, called}
 

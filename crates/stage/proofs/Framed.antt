@@ -1,8 +1,7 @@
 -- The frame of a stage's own calls: what `forward` and `back` owe once the tests have let them pass. Assumes nothing.
-use Rattle.std.proofs.Common.{◌≡◌, ℕ, ◌^◌, ◌<◌, ◌≤◌, Bool, true, false, List, length, take, None, Ok, Err, sym, refl, ap, ◌∙◌, subst, ap₂, arith}
+use Rattle.std.proofs.Common.{◌≡◌, ℕ, ◌^◌, ◌<◌, ◌≤◌, Bool, true, List, length, take, None, Ok, Err, sym, refl, ap, ◌∙◌, arith}
 use Rattle.std.proofs.lemmas.List.{length-take-le}
 use Rattle.stage.specs.declared.setting.Setting.{Setting}
-use Rattle.stage.specs.declared.fault.StageFault.{StageFault}
 use Rattle.stage.specs.declared.fault.StageFault.TheVariants.{NoBlock}
 use Rattle.stage.specs.Bits.{binary, Bits, xor, zeros, padded}
 use Rattle.stage.specs.Meaning.{Meaning, Lawful, word}

@@ -1,7 +1,7 @@
 -- Buffers that begin with a list and are 0 past it, and the loops that zero them. Assumes nothing.
-use Rattle.std.proofs.Common.{◌≡◌, ℕ, ◌+◌, ◌-◌, ◌<◌, ◌≤◌, List, [], ◌++◌, length, get_or, take, drop, set, sym, refl, ap, ◌∙◌, ap₂, arith}
+use Rattle.std.proofs.Common.{◌≡◌, ℕ, ◌+◌, ◌-◌, ◌<◌, ◌≤◌, List, ◌++◌, length, take, drop, set, sym, ap, ◌∙◌, ap₂, arith}
 use lib.Seq.{paste}
-use Rattle.std.proofs.lemmas.List.{length-take, length-drop, length-append, length-replicate, take_at, take_all, drop_all, append-nil}
+use Rattle.std.proofs.lemmas.List.{length-drop, length-append, length-replicate, take_at, take_all, drop_all, append-nil}
 use Rattle.std.proofs.lemmas.List.Edits.{paste_none, fill_from_more}
 use Rattle.stage.specs.Bits.{zeros, padded}
 

@@ -1,18 +1,18 @@
 -- The calls of a pair, from those of its stages. Assumes nothing.
-use Rattle.std.proofs.Common.{◌≡◌, ℕ, ◌^◌, ◌<◌, ◌≤◌, Bool, true, false, ◌&&◌, List, [], ◌∷◌, ◌++◌, length, take, None, Ok, Err, Result, sym, refl, ap, ◌∙◌, subst, ap₂, arith}
+use Rattle.std.proofs.Common.{◌≡◌, ℕ, ◌<◌, ◌≤◌, Bool, true, false, List, length, take, None, Ok, Err, Result, sym, refl, ap, ◌∙◌, subst, ap₂, arith}
 use lib.ListN.{length-replicate}
-use Rattle.std.proofs.lemmas.Bool.{and_parts, cases_Bool}
+use Rattle.std.proofs.lemmas.Bool.{and_parts}
 use Rattle.std.proofs.lemmas.List.{length-take-le}
 use Rattle.stage.specs.declared.setting.Setting.{Setting}
 use Rattle.stage.specs.declared.fault.StageFault.{StageFault}
-use Rattle.stage.specs.declared.fault.StageFault.TheVariants.{NotBits, NoBlock}
+use Rattle.stage.specs.declared.fault.StageFault.TheVariants.{NotBits}
 use Rattle.stage.specs.Bits.{binary, Bits, zeros, padded}
 use Rattle.stage.specs.Meaning.{Meaning, Lawful, word, paired}
 use Rattle.stage.specs.Refusals.{first_fault, opening_tests}
-use Rattle.stage.specs.Calls.{word_length, covering, Accepted, Untouched, Kept, HasWord, TheBlock, Undone, Forward, Back}
+use Rattle.stage.specs.Calls.{word_length, covering, Accepted, Kept, HasWord, Undone, Forward, Back}
 use Rattle.stage.proofs.Opened.{Open, admitted, open_seeded, open_work, open_length, open_covering}
 use Rattle.stage.proofs.Padding.{length-padded, take-padded}
-use Rattle.stage.proofs.Past.{same-room, forward_accepted, forward_refused, accept_forward, refuse_forward, back_undone, back_refused, undo_back, refuse_back, refuse_cover}
+use Rattle.stage.proofs.Past.{same-room, forward_accepted, forward_refused, accept_forward, back_undone, back_refused, undo_back, refuse_back}
 use Rattle.stage.specs.Paired.{word_bits, word_apart, first_some, word-paired, paired_lawful}
 use Rattle.stage.proofs.Framed.{one_block}
 

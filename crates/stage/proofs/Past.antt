@@ -1,14 +1,10 @@
 -- The contracts of `forward` and `back` once tests 4 to 6 pass, in both directions. Assumes nothing.
-use Rattle.std.proofs.Common.{◌≡◌, ℕ, ◌+◌, ◌-◌, ◌<◌, ◌≤◌, Bool, true, false, cond, not, ◌||◌, eqb, ltb, List, [], ◌∷◌, ◌++◌, length, take, Some, None, Ok, Err, Option, Result, sym, refl, ap, ◌∙◌, subst, ap₂, arith, length-append}
-use lib.ListN.{length-replicate}
+use Rattle.std.proofs.Common.{◌≡◌, ℕ, true, false, not, ◌||◌, ltb, List, [], ◌∷◌, length, take, Some, None, Option, Result, sym, ap, ◌∙◌, subst, ap₂}
 use Rattle.std.specs.Option as options
-use Rattle.std.specs.Result as results
-use Rattle.std.proofs.lemmas.Bool.{not-false, eqb-false}
-use Rattle.std.proofs.lemmas.List.{take_at}
 use Rattle.stage.specs.declared.setting.Setting.{Setting}
 use Rattle.stage.specs.declared.fault.StageFault.{StageFault}
-use Rattle.stage.specs.declared.fault.StageFault.TheVariants.{ShortBuffer, BadSetting, NoWord, NotCovering, NotBits, NoBlock}
-use Rattle.stage.specs.Bits.{binary, Bits, zeros, padded}
+use Rattle.stage.specs.declared.fault.StageFault.TheVariants.{NotCovering, NotBits}
+use Rattle.stage.specs.Bits.{binary}
 use Rattle.stage.specs.Meaning.{Meaning, word}
 use Rattle.stage.specs.Refusals.{short}
 use Rattle.stage.specs.Calls.{word_length, forward_refusal, back_refusal, Accepted, Untouched, Undone, Forward, Back}

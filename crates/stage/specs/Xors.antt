@@ -1,10 +1,9 @@
 -- The exclusive_or of lists. Assumes nothing.
-use Rattle.std.specs.Prelude.{◌≡◌, ℕ, zero, suc, ◌+◌, ◌<◌, ◌≤◌, max, Bool, true, ◌&&◌, List, [], ◌∷◌, ◌++◌, map, length, take, drop, bit_xor, nat_lt, slice_index, slice_set, refl}
+use Rattle.std.specs.Prelude.{◌≡◌, ℕ, zero, suc, ◌+◌, ◌<◌, ◌≤◌, max, true, List, [], ◌∷◌, ◌++◌, map, length, take, drop, bit_xor, nat_lt, slice_index, slice_set, refl}
 use Rattle.std.proofs.Common.{sym, ap, ap₂, ◌∙◌, arith, le_of_suc-le-suc, not-suc-le-zero}
 use Rattle.std.proofs.Math.Nat.{suc-max-suc, zero-max, max-zero}
 use Rattle.std.specs.Int.Bits.{xor_zero_r, xor_assoc as bit_assoc, xor_self as bit_self}
 use Rattle.std.proofs.lemmas.Nat.{xor_comm as bit_comm, xor_lt}
-use Rattle.std.proofs.lemmas.List.{length-replicate}
 use borrow.Rule.Slice.PartMut.{put_mid}
 use Rattle.std.specs.List.{range_with_len}
 use Rattle.std.proofs.lemmas.Bool.{and_parts, and_from, ltb-true, lt-ltb}

@@ -1,4 +1,4 @@
-use Rattle.std.proofs.Common.{◌≡◌, ℕ, ◌*◌, ◌/◌, ◌%◌, ◌^◌, ◌<◌, arith}
+use Rattle.std.proofs.Common.{◌*◌, ◌/◌, ◌%◌, ◌^◌, ◌<◌, arith}
 use lib.Bits.{bit_and, bit_xor, xor_lt}
 use Rattle.check_bits.proofs.Shifting.{shifted, shifted_lt, step_none, step_one}
 use Rattle.check_bits.proofs.shift_in.Goals as goal

@@ -1,4 +1,4 @@
-use Rattle.std.proofs.Common.{◌≡◌, ℕ, ◌+◌, List, length, get_or, set, sym, refl, ap, ◌∙◌, arith}
+use Rattle.std.proofs.Common.{◌≡◌, ℕ, ◌+◌, length, get_or, set, ap, ◌∙◌, arith}
 use lib.Bits.{bit_xor}
 use Rattle.stage.specs.Bits.{xor}
 use Rattle.gold.specs.Sequence.{gold as golden, sequence}

@@ -1,4 +1,4 @@
-use Rattle.std.proofs.Common.{◌≡◌, ℕ, ◌-◌, ◌<◌}
+use Rattle.std.proofs.Common.{◌≡◌, ◌-◌}
 use lib.Seq.{paste}
 use Rattle.stage.specs.Bits.{zeros}
 use Rattle.stage.proofs.buffers.clear_from.Given as goal

@@ -1,4 +1,3 @@
-use Rattle.std.proofs.Common.{◌≡◌, sym, ap, ◌∙◌, subst}
 use Rattle.stage.proofs.PairCalls.{back_stops, back_finds, back_lacks, back_again}
 use Rattle.std.proofs.lemmas.Result.{err_from_is_err_and}
 use Rattle.stage.proofs.pair.PairStage.back.Goals as goal
