@@ -3,7 +3,7 @@
 
 Run once, after /opt/rattle/port/port.py, at the top of the repository. Types and facts are in upper camel case, all else is in snake
 case; a dash stays in a lemma's name where it joins the names of two functions, as in `length-xor`. It turns specs/ and proofs/ whole, and
-in src/ the clauses and the `ghost` lines. What Rattle makes (goals, steps) and what is imported from the kit stays.
+in src/ the clauses and the `ghost` lines; in a comment, names that its file's code has. What Rattle makes (goals, steps) and what is imported from the kit stays.
 With --list it writes nothing and prints each name's old and new spelling.
 """
 
@@ -23,6 +23,7 @@ OTHERWISE = {
 defined = set()
 LIBRARY = set("length take drop map append slice_index replicate fold cond filter sum".split())
 OURS = set(line.split(":")[0].strip() for line in open("crates.txt") if ":" in line)
+COMMENT = re.compile(r"(?<![^\s(){}.;,@])--[^\n]*|//[^\n]*")
 DECLARED = re.compile(r"^\s*((?:(?:abbrev|unfoldable|pub|record|data)\s+)*)([A-Za-z][^\s:(){}]*)\s*(?:\([^()]*\)\s*|\{[^{}]*\}\s*)*:\s", re.M)
 USE = re.compile(r"^(?:ghost )?use ([^\s{;]+)(?:\{([^}]*)\})?( as [^\s;]+)?", re.M)
 
@@ -96,11 +97,16 @@ def candidates(word):
 
 
 def turn(text, keep, functions, fields, table):
+    code = set(WORD.findall(COMMENT.sub(" ", text)))
+    comments = [m.span() for m in COMMENT.finditer(text)]
+
     def one(m):
         word = m[0]
         if word in keep or not candidates(word):
             return word
         before = text[: m.start()]
+        if word not in code and any(a <= m.start() < b for a, b in comments):
+            return word
         if before.endswith(".") and word not in fields:
             head = re.search(r"([A-Za-z][^\s(){}.;,]*)\.$", before)
             if not head or head[1] not in ("grants", "options", "results", "outcomes") and not re.search(r"Rattle\.[^\s]*$", before):

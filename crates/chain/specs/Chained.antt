@@ -1,4 +1,4 @@
--- The built_in chain: check bits, tail_biting code, interleaver, selection, scrambler, in this order. Assumes nothing.
+-- The built-in chain: check bits, tail-biting code, interleaver, selection, scrambler, in this order. Assumes nothing.
 use Rattle.std.specs.Prelude.{◌≡◌, ℕ, ◌+◌, ◌*◌, ◌^◌, ◌<◌, Bool, cond, ◌&&◌, List, ◌++◌, nat_le, nat_lt}
 use Rattle.stage.specs.declared.setting.Setting.{Setting}
 use Rattle.stage.specs.Bits.{Bits, xor}
@@ -32,7 +32,7 @@ chain_covers n s = (ranged s && sendable n) && nat_le (3 * (n + 24)) s.output
 pub record InNumbers (m : Meaning) : Type 0 where
   pub lengths : (n e : ℕ) → m.size n e ≡ cond (sendable n && within e) e 0
   pub marks : (n e : ℕ) → 0 < m.size n e → m.covers n e ≡ nat_le (3 * (n + 24)) e
-  -- the word: block and check bits coded, interleaved, taken in a ring, and the pseudo_random sequence added
+  -- the word: block and check bits coded, interleaved, taken in a ring, and the pseudo-random sequence added
   pub words : (n e seed : ℕ) (b : List ℕ) → 0 < m.size n e → seed < 2 ^ 31 → Bits n b
       → word m n e seed b
       ≡ xor (gathered (ring (3 * (n + 24)) e) (gathered (triple (n + 24)) (coded (b ++ check_bits_of b)))) (sequence seed e)

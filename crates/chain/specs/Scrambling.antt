@@ -1,4 +1,4 @@
--- The scrambler adds the pseudo_random sequence of the seed. Assumes nothing.
+-- The scrambler adds the pseudo-random sequence of the seed. Assumes nothing.
 use Rattle.std.specs.Prelude.{true, cond, ◌&&◌}
 use Rattle.stage.specs.Meaning.{Meaning}
 use Rattle.gold.specs.Sequence.{sequence}

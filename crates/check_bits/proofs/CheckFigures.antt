@@ -8,7 +8,7 @@ zero_register : (n : ℕ) → register low (zeros 24) (zeros n) ≡ zeros 24
 zero_register zero = refl
 zero_register (suc n) = zero_register n
 
--- an all_zero block has all_zero check bits
+-- an all-zero block has all-zero check bits
 pub zero_check : (n : ℕ) → check_bits_of (zeros n) ≡ zeros 24
 zero_check n = check_bits_is (zeros n) ∙ zero_register n
 

@@ -190,7 +190,7 @@ check_bits_stand = record {
       ∙ sym (check_bits_is b));
 }
 
--- ---- the exclusive_or of two blocks
+-- ---- the exclusive-or of two blocks
 
 scaled-xor : (c d : ℕ) (p : List ℕ) → c < 2 → d < 2 → scaled (bit_xor c d) p ≡ xor (scaled c p) (scaled d p)
 scaled-xor zero d p hc hd = sym (zeros-xor (length p) (scaled d p) (omega (arith, length-scaled d p)))

@@ -1,6 +1,6 @@
 -- Worked figures: what the definitions give on examples, as one list. Assumes nothing.
 use Rattle.std.specs.Prelude.{◌≡◌, ℕ, suc, ◌+◌, Bool, true, false, List, [], ◌∷◌, ◌++◌, take, replicate, ℤ, pos, negsuc, slice_index}
-use Rattle.std.specs.List.{AllByRecursion as All}
+use Rattle.std.specs.List.{AllByRecursion}
 use Rattle.stage.specs.Bits.{zeros}
 use Rattle.check_bits.specs.Checking.{check_bits_of, to_bits}
 use Rattle.tail_biting.specs.Coding.{coded, stream, taps_of}
@@ -25,13 +25,13 @@ abbrev pub signed : ℤ → List ℕ
 signed (pos n) = 0 ∷ n ∷ []
 signed (negsuc n) = 1 ∷ suc n ∷ []
 
--- whether the built_in chain covers blocks of a bits at the output length e
+-- whether the built-in chain covers blocks of a bits at the output length e
 abbrev pub covered : (a e : ℕ) → ℕ
 covered a e = flag (chained.covers a e)
 
 unfoldable pub figures : List Figure
 figures =
-    -- an all_zero block has all_zero check bits
+    -- an all-zero block has all-zero check bits
     record { gives = λ n. check_bits_of (zeros n); should_be = λ n. zeros 24 }
     -- a block whose only 1 is its last bit has 0x864CFB
     ∷ record { gives = λ n. check_bits_of (zeros n ++ 1 ∷ []); should_be = λ n. to_bits 24 0x864cfb }
@@ -66,4 +66,4 @@ abbrev pub Holds : Figure → Type 0
 Holds f = (n : ℕ) → f.gives n ≡ f.should_be n
 
 unfoldable pub FiguresHold : Type 0
-FiguresHold = All Holds figures
+FiguresHold = AllByRecursion Holds figures

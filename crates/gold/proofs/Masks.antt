@@ -19,7 +19,7 @@ shift_in x fresh =
 pub bit_suc : (n j : ℕ) → bit n (suc j) ≡ bit (n / 2) j
 bit_suc n j = ap (λ v. v % 2) (sym (simp one-add at (shr-shr n 1 j)))
 
--- a bit below the k_th is a bit of the remainder modulo 2 ^ k
+-- a bit below the k-th is a bit of the remainder modulo 2 ^ k
 pub bit_mod : (n k j : ℕ) → j < k → bit (n % 2 ^ k) j ≡ bit n j
 bit_mod n zero j h = absurd (omega arith)
 bit_mod n (suc k) zero h =

@@ -1,4 +1,4 @@
--- The pseudo_random sequence c of TS 36.211, section 7.2: a Gold sequence of length 31. Assumes nothing.
+-- The pseudo-random sequence c of TS 36.211, section 7.2: a Gold sequence of length 31. Assumes nothing.
 use Rattle.std.specs.Prelude.{◌≡◌, ℕ, zero, suc, ◌+◌, ◌*◌, ◌/◌, ◌%◌, ◌^◌, ◌<◌, List, map}
 use Rattle.std.specs.List.{range_with_len}
 

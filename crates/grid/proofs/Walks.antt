@@ -50,7 +50,7 @@ module _ {X : Type 0} (d : ℕ → Bool) where
   taken-laid i (x ∷ xs) [] h = nil_from_length (taken d i (x ∷ xs)) (length_taken i (x ∷ xs) ∙ sym h)
   taken-laid i (x ∷ xs) (t ∷ ts) h = back_step (d i) i x t xs ts refl h (taken-laid (suc i) xs ts) (taken-laid (suc i) xs (t ∷ ts))
 
-  -- What stands at one place, the j_th of a list whose first element has the place i.
+  -- What stands at one place, the j-th of a list whose first element has the place i.
 
   first_put : (b : Bool) (i : ℕ) (x t z : X) (xs ts : List X) → b ≡ true → get_or (cond b (t ∷ laid d (suc i) xs ts) (x ∷ laid d (suc i) xs (t ∷ ts))) 0 z ≡ t
   first_put true i x t z xs ts e = refl

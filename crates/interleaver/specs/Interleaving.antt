@@ -1,4 +1,4 @@
--- The sub_block interleaver: each of three streams is written into a matrix of 32 columns row by row, and
+-- The sub-block interleaver: each of three streams is written into a matrix of 32 columns row by row, and
 -- read column by column. Cells are numbered row by row, from the top left. Assumes nothing.
 use Rattle.std.specs.Prelude.{ℕ, ◌+◌, ◌-◌, ◌*◌, ◌/◌, ◌%◌, Bool, true, cond, ◌&&◌, List, [], ◌∷◌, map, Some, None, filter, Option, ◌==◌, nat_le}
 use Rattle.std.specs.List.{range_with_len, flat_map}

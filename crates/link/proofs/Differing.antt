@@ -24,7 +24,7 @@ use Rattle.link.proofs.Passing.{offer_passes}
 use Rattle.link.proofs.Mirrored.{Lasts, next, sent_next, lasts_next, sized, seeded}
 use Rattle.link.proofs.Homecoming.{carried, sending_new, lasts_new}
 
--- ---- exclusive_or, part by part
+-- ---- exclusive-or, part by part
 
 take-xor : (n : ℕ) (a b : List ℕ) → take n (xor a b) ≡ xor (take n a) (take n b)
 take-xor zero a b = refl

@@ -46,7 +46,7 @@ pub record Alike {X : Type 0} (K : Kind X) (identity : ℕ) (m : Meaning) (g : G
   -- each airs the calendar's part of its own block's word, under the seed of the round
   pub first : aired_bits K identity x.grid ≡ Some (part_of (part_at g k) (word m g.length (output g) (seed_at identity g start k) a))
   pub second : aired_bits K identity y.grid ≡ Some (part_of (part_at g k) (word m g.length (output g) (seed_at identity g start k) b))
-  -- the exclusive_or of the aired bits is that part of the image of the blocks' exclusive_or
+  -- the exclusive-or of the aired bits is that part of the image of the blocks' exclusive-or
   pub difference : (u v : List ℕ) → aired_bits K identity x.grid ≡ Some u → aired_bits K identity y.grid ≡ Some v
       → xor u v ≡ part_of (part_at g k) (m.image g.length (output g) (xor a b))
 

@@ -1,6 +1,6 @@
 -- A list of bits, place by place. Assumes nothing.
 use Rattle.std.proofs.Common.{◌≡◌, ℕ, zero, suc, ◌<◌, Bool, true, false, not, ltb, List, [], ◌∷◌, ◌++◌, length, get_or, take, drop, Some, None, sym, refl, ap, arith}
-use Rattle.std.specs.List.{AllByRecursion as All}
+use Rattle.std.specs.List.{AllByRecursion}
 use Rattle.std.proofs.lemmas.Bool.{and_parts, and_from, ltb-true, lt-ltb}
 use Rattle.std.proofs.lemmas.List.{get_or-take, length-take}
 use Rattle.std.proofs.ByRecursion.{All-append, All-take, All-drop, All-get_or}
@@ -11,7 +11,7 @@ use Rattle.stage.proofs.Opened.{passed, stopped}
 
 -- each element below 2, in the words of the standard library
 abbrev pub Small : List ℕ → Type 0
-Small xs = All (λ x. x < 2) xs
+Small xs = AllByRecursion (λ x. x < 2) xs
 
 pub small_from : (xs : List ℕ) → binary xs ≡ true → Small xs
 small_from [] e = tt

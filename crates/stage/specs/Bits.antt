@@ -10,7 +10,7 @@ binary (x ∷ xs) = nat_lt x 2 && binary xs
 abbrev pub Bits : ℕ → List ℕ → Type 0
 Bits n b = (length b ≡ n) × (binary b ≡ true)
 
--- the exclusive_or, place by place; a list that ends early counts as zeros from there on
+-- the exclusive-or, place by place; a list that ends early counts as zeros from there on
 abbrev pub xor : List ℕ → List ℕ → List ℕ
 xor [] ys = ys
 xor (x ∷ xs) [] = x ∷ xs

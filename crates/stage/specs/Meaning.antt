@@ -12,7 +12,7 @@ pub record Meaning : Type 0 where
   -- the mark: covering, or not
   pub covers : (n e : ℕ) → Bool
 
--- the word of a block: its image, exclusive_or the offset
+-- the word of a block: its image, exclusive-or the offset
 abbrev pub word : Meaning → (n e seed : ℕ) → List ℕ → List ℕ
 word m n e seed b = xor (m.image n e b) (m.offset n e seed)
 
@@ -21,7 +21,7 @@ pub record Lawful (m : Meaning) : Type 0 where
   pub sized : (n e : ℕ) → 0 < m.size n e → (0 < n) × (n ≤ 7680) × (0 < e) × (e ≤ 7680) × (m.size n e ≤ 7680)
   pub images : (n e : ℕ) (b : List ℕ) → 0 < m.size n e → Bits n b → Bits (m.size n e) (m.image n e b)
   pub offsets : (n e seed : ℕ) → 0 < m.size n e → seed < 2 ^ 31 → Bits (m.size n e) (m.offset n e seed)
-  -- the exclusive_or of two blocks has as image the exclusive_or of their images
+  -- the exclusive-or of two blocks has as image the exclusive-or of their images
   pub linear : (n e : ℕ) (a b : List ℕ) → 0 < m.size n e → Bits n a → Bits n b
       → m.image n e (xor a b) ≡ xor (m.image n e a) (m.image n e b)
   -- where the mark is covering, different blocks have different images

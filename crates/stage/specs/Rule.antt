@@ -9,7 +9,7 @@ pub record PairRule (a b p : Meaning) : Type 0 where
   pub lengths : (n e : ℕ) → p.size n e ≡ cond (a.size n e == 0) 0 (b.size (a.size n e) e)
   -- the second's map of the first's image
   pub maps : (n e : ℕ) (x : List ℕ) → p.image n e x ≡ b.image (a.size n e) e (a.image n e x)
-  -- the second's map of the first's offset, exclusive_or the second's offset
+  -- the second's map of the first's offset, exclusive-or the second's offset
   pub offsets : (n e seed : ℕ) → p.offset n e seed ≡ xor (b.image (a.size n e) e (a.offset n e seed)) (b.offset (a.size n e) e seed)
   -- covering exactly when both are
   pub marks : (n e : ℕ) → p.covers n e ≡ (a.covers n e && b.covers (a.size n e) e)

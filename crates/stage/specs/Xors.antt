@@ -1,4 +1,4 @@
--- The exclusive_or of lists. Assumes nothing.
+-- The exclusive-or of lists. Assumes nothing.
 use Rattle.std.specs.Prelude.{◌≡◌, ℕ, zero, suc, ◌+◌, ◌<◌, ◌≤◌, max, true, List, [], ◌∷◌, ◌++◌, map, length, take, drop, bit_xor, nat_lt, slice_index, slice_set, refl}
 use Rattle.std.proofs.Common.{sym, ap, ap₂, ◌∙◌, arith, le_of_suc-le-suc, not-suc-le-zero}
 use Rattle.std.proofs.Math.Nat.{suc-max-suc, zero-max, max-zero}

@@ -1,7 +1,7 @@
--- Worked figures of the tail_biting code. Assumes nothing.
+-- Worked figures of the tail-biting code. Assumes nothing.
 use Rattle.std.proofs.Common.{◌≡◌, ℕ, suc, ◌+◌, ◌-◌, ◌≤◌, List, [], ◌∷◌, ◌++◌, length, take, drop, replicate, sym, refl, ap, ◌∙◌, ap₂, arith}
 use lib.ListN.{length-replicate}
-use Rattle.std.specs.List.{AllByRecursion as All}
+use Rattle.std.specs.List.{AllByRecursion}
 use Rattle.std.proofs.lemmas.List.{length-append, append_assoc, take-replicate, drop-replicate, replicate-append-replicate}
 use Rattle.stage.specs.Bits.{xor, zeros}
 use Rattle.stage.specs.Xors.{length_xor_same, xor-append, xor_self}
@@ -25,7 +25,7 @@ abbrev marks : List ℕ → List ℕ
 marks [] = zeros 7
 marks (t ∷ ts) = xor (marked t) (marks ts)
 
-length-marks : (ts : List ℕ) → All (λ t. t ≤ 6) ts → length (marks ts) ≡ 7
+length-marks : (ts : List ℕ) → AllByRecursion (λ t. t ≤ 6) ts → length (marks ts) ≡ 7
 length-marks [] h = refl
 length-marks (t ∷ ts) h =
     let l = length_marked t h.0 in
@@ -46,7 +46,7 @@ lone_turned n t h near =
     ∙ ap (λ (x : List ℕ). zeros t ++ (1 ∷ x)) (replicate-append-replicate (6 - t) (n - 7) 0))
 
 -- a lone 1 at bit 0 sets a stream at its taps
-lone_stream : (n : ℕ) (ts : List ℕ) → 7 ≤ n → All (λ t. t ≤ 6) ts → stream ts (1 ∷ zeros (n - 1)) ≡ marks ts ++ zeros (n - 7)
+lone_stream : (n : ℕ) (ts : List ℕ) → 7 ≤ n → AllByRecursion (λ t. t ≤ 6) ts → stream ts (1 ∷ zeros (n - 1)) ≡ marks ts ++ zeros (n - 7)
 lone_stream n [] h near =
     let l : length (1 ∷ zeros (n - 1)) ≡ 7 + (n - 7) = omega (arith, length-replicate {A = ℕ} (n - 1) 0) in
     stream_none (1 ∷ zeros (n - 1)) ∙ ap zeros l ∙ sym (replicate-append-replicate 7 (n - 7) 0)

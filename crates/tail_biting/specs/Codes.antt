@@ -1,4 +1,4 @@
--- The words of the tail_biting code, and what its loops leave in both buffers. Assumes nothing.
+-- The words of the tail-biting code, and what its loops leave in both buffers. Assumes nothing.
 use Rattle.std.specs.Prelude.{◌≡◌, ℕ, ◌-◌, ◌*◌, ◌≤◌, Bool, true, false, List, ◌++◌, length, take, drop, Decides, ◌≢◌, refl}
 use Rattle.std.proofs.Common.{sym, ap, ap₂, ◌∙◌, arith}
 use borrow.Rule.Slice.PartMut.{put_mid}

@@ -1,4 +1,4 @@
--- The tail_biting convolutional code of rate 1/3 and constraint length 7. Assumes nothing.
+-- The tail-biting convolutional code of rate 1/3 and constraint length 7. Assumes nothing.
 use Rattle.std.specs.Prelude.{ℕ, zero, suc, ◌+◌, ◌-◌, ◌*◌, ◌%◌, Bool, true, cond, ◌&&◌, List, [], ◌∷◌, ◌++◌, map, length, take, drop, bit_xor, nat_le, slice_index}
 use Rattle.std.specs.List.{range_with_len}
 use Rattle.stage.specs.Bits.{xor, zeros}
@@ -9,7 +9,7 @@ use Rattle.stage.specs.Ranges.{within}
 abbrev pub behind : ℕ → ℕ → ℕ → ℕ
 behind n k t = (k + n * t - t) % n
 
--- the exclusive_or of a block's bits at the positions k - t, for each tap t
+-- the exclusive-or of a block's bits at the positions k - t, for each tap t
 abbrev pub tapped : List ℕ → List ℕ → ℕ → ℕ
 tapped b [] k = 0
 tapped b (t ∷ ts) k = bit_xor (slice_index b (behind (length b) k t)) (tapped b ts k)

@@ -1,4 +1,4 @@
--- Streams of a block: their bits, what they are of an exclusive_or, and how two of them give the block back. Assumes nothing.
+-- Streams of a block: their bits, what they are of an exclusive-or, and how two of them give the block back. Assumes nothing.
 use Rattle.std.specs.Prelude.{◌≡◌, ℕ, zero, suc, ◌+◌, ◌-◌, ◌*◌, ◌%◌, ◌<◌, ◌≤◌, true, List, [], ◌∷◌, ◌++◌, map, length, take, drop, bit_xor, slice_index, slice_index_or, refl}
 use Rattle.std.proofs.Common.{sym, ap, ap₂, ◌∙◌, inl, inr, mul-add, mul-zero, suc-mul, mod-lt, mod-eq_of_lt, arith}
 use mathlib.Core.List.{map_congr_left}
@@ -125,7 +125,7 @@ streams_undone b =
     ∙ sums_undone (cyclic b) (length b - 1) k
     ∙ ap (λ (j : ℕ). slice_index b j) (mod-eq_of_lt h))
 
--- the streams of an exclusive_or
+-- the streams of an exclusive-or
 tapped-xor : (a b ts : List ℕ) (k : ℕ) → length a ≡ length b → tapped (xor a b) ts k ≡ bit_xor (tapped a ts k) (tapped b ts k)
 tapped-xor a b [] k e = refl
 tapped-xor a b (t ∷ ts) k e =

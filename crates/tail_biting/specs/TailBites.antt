@@ -1,4 +1,4 @@
--- The tail_biting code is lawful, and what its calls leave. Assumes nothing.
+-- The tail-biting code is lawful, and what its calls leave. Assumes nothing.
 use Rattle.std.specs.Prelude.{◌≡◌, ℕ, ◌*◌, ◌<◌, ◌≤◌, Bool, List, length, take, None, Ok, Err, ◌≢◌}
 use Rattle.std.proofs.Common.{sym, ap, subst, ◌∙◌, arith}
 use Rattle.std.proofs.lemmas.List.{length-replicate}

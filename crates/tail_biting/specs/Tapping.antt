@@ -1,4 +1,4 @@
--- Taps that act on a sequence of bits: at k they take the exclusive_or of f (k + m * t), over each tap t. A product of polynomials acts as
+-- Taps that act on a sequence of bits: at k they take the exclusive-or of f (k + m * t), over each tap t. A product of polynomials acts as
 -- the one after the other, and a tap that stands twice is gone. Assumes nothing.
 use Rattle.std.specs.Prelude.{◌≡◌, ℕ, ◌+◌, ◌*◌, cond, List, [], ◌∷◌, ◌++◌, map, ◌==◌, bit_xor, refl}
 use Rattle.std.proofs.Common.{sym, ap, ap₂, ◌∙◌, mul-add, mul-zero, arith}
