@@ -9,7 +9,7 @@ use Rattle.calendar.specs.declared.time.Time.{Time}
 use Rattle.calendar.specs.Grants.{output}
 use Rattle.calendar.specs.Rounds.{copies, owed, part_at, first_copy, last_part, seed_at}
 use Rattle.calendar.specs.Courses.{Going, going_of, begun, one_on}
-use Rattle.calendar.proofs.Counting.{Few, copies_few, reads_none, reads_now, reads-next, reads_same}
+use Rattle.calendar.proofs.Counting.{Few, copies_few, reads_none, reads_now, reads_next, reads_same}
 use Rattle.air.specs.declared.answers.Outcome.{Outcome}
 use Rattle.air.specs.declared.answers.Outcome.TheVariants.{Part, Block, Spoiled}
 use Rattle.air.specs.Terminals.{Awaiting, Hearing, block_of, one_heard, finished, reading}
@@ -55,7 +55,7 @@ module _ (c : Course) where
   module _ (first : first_copy c.grant c.gone ≡ true) where
     parts_next : parts_read c.grant (c.gone + 1) ≡ part_at c.grant c.gone + 1
     parts_next =
-        ap (parts_read c.grant) (add-one c.gone) ∙ reads-next c.grant c.gone few first ∙ sym (add-one (part_at c.grant c.gone))
+        ap (parts_read c.grant) (add-one c.gone) ∙ reads_next c.grant c.gone few first ∙ sym (add-one (part_at c.grant c.gone))
 
     -- the word with the part
     read_next : (part : ℕ) → part ≡ part_at c.grant c.gone → (table word bits : List ℕ)

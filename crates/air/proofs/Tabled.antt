@@ -65,10 +65,10 @@ kept_next table c (Some q) e h =
     ap (λ g. binary (take g.length table)) (same_grant (going_of c) (going_of q) e) ∙ h
 
 -- what is left of a grant that fits the chain fits it
-pub fitting-next : (m : Meaning) (table : List ℕ) (c : Course) (r : Option Course) → fits m (going_of c).grant ≡ true
+pub fitting_next : (m : Meaning) (table : List ℕ) (c : Course) (r : Option Course) → fits m (going_of c).grant ≡ true
     → option_map going_of r ≡ one_on (going_of c) → option_map (sending_of table) (fitting m r) ≡ one_sent (sending_of table c)
-fitting-next m table c None h e = ap (option_map (λ g. record { going = g; block = take (going_of c).grant.length table })) e
-fitting-next m table c (Some q) h e =
+fitting_next m table c None h e = ap (option_map (λ g. record { going = g; block = take (going_of c).grant.length table })) e
+fitting_next m table c (Some q) h e =
     let same = same_grant (going_of c) (going_of q) e in
     ap (λ (v : Bool). option_map (sending_of table) (cond v (Some q) None)) (ap (fits m) same ∙ h)
     ∙ ap (λ g. Some (record { going = going_of q; block = take g.length table })) same

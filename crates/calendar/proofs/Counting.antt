@@ -117,8 +117,8 @@ reads_none g f = few_none g.subframes (copies g) f
 pub reads_now : (g : Grant) (k : ℕ) → Few (copies g) → first_copy g k ≡ true → reads g k ≡ part_at g k
 reads_now g k f h = let p = first_is g k h in few_now g.subframes k (copies g) f p.0 p.1 ∙ sym (part_first g k p.0)
 
-pub reads-next : (g : Grant) (k : ℕ) → Few (copies g) → first_copy g k ≡ true → reads g (suc k) ≡ suc (part_at g k)
-reads-next g k f h = let p = first_is g k h in few_next g.subframes k (copies g) f p.0 p.1 ∙ ap suc (sym (part_first g k p.0))
+pub reads_next : (g : Grant) (k : ℕ) → Few (copies g) → first_copy g k ≡ true → reads g (suc k) ≡ suc (part_at g k)
+reads_next g k f h = let p = first_is g k h in few_next g.subframes k (copies g) f p.0 p.1 ∙ ap suc (sym (part_first g k p.0))
 
 pub reads_same : (g : Grant) (k : ℕ) → Few (copies g) → first_copy g k ≡ false → reads g (suc k) ≡ reads g k
 unfolding first_copy

@@ -16,7 +16,7 @@ pub type BuiltIn = Pair<
     Pair<TailBitingCode, Pair<Interleaver, Pair<Selection, Scrambler>>>,
 >;
 
-// The built-in chain. Its lengths, its marks and its words are those of `Chain-stands`.
+// The built-in chain. Its lengths, its marks and its words are those of `ChainStands`.
 pub fn built_in() -> BuiltIn
     ensures { ChainStands }
 {

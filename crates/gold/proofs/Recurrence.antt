@@ -4,7 +4,7 @@ use native.Mathlib.Nat.{zero-div}
 use Rattle.std.proofs.lemmas.Bool.{cases_lt}
 use Rattle.gold.specs.Sequence.{FirstSequence, SecondSequence, MeetsStandard, bit, fresh₁, fresh₂, x₁, x₂, gold}
 use Rattle.gold.proofs.Masks.{bit_suc}
-use Rattle.gold.proofs.Window.{window_none, bit-window, bit_past, bit-next, below₁, below₂}
+use Rattle.gold.proofs.Window.{window_none, bit-window, bit_past, bit_next, below₁, below₂}
 
 pub first_stands : FirstSequence x₁
 unfolding x₁
@@ -14,7 +14,7 @@ first_stands =
       zeros = λ i p h. bit-window fresh₁ below₁ i 1 h ∙ high i p;
       next = λ i.
           let a = bit_past fresh₁ below₁ 1 i 3 (omega arith) in
-          bit-next fresh₁ below₁ 1 i ∙ omega arith;
+          bit_next fresh₁ below₁ 1 i ∙ omega arith;
     }
   where
     high : (i : ℕ) → 0 < i → bit 1 i ≡ 0
@@ -30,7 +30,7 @@ second_stands seed =
           let a = bit_past fresh₂ below₂ seed i 3 (omega arith) in
           let b = bit_past fresh₂ below₂ seed i 2 (omega arith) in
           let c = bit_past fresh₂ below₂ seed i 1 (omega arith) in
-          bit-next fresh₂ below₂ seed i ∙ omega arith;
+          bit_next fresh₂ below₂ seed i ∙ omega arith;
     }
 
 -- two sequences with one start and one recurrence are equal

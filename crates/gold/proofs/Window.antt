@@ -32,8 +32,8 @@ module _ (f : ℕ → ℕ) (below : (w : ℕ) → f w < 2) where
   bit_past w i j h = ap (λ v. bit v 0) (window_add f w i j) ∙ bit-window j (window f w i) h
 
   -- and goes on with the bit that follows it
-  pub bit-next : (w i : ℕ) → bit (window f w (i + 31)) 0 ≡ f (window f w i)
-  bit-next w i =
+  pub bit_next : (w i : ℕ) → bit (window f w (i + 31)) 0 ≡ f (window f w i)
+  bit_next w i =
       let v = window f w i in
       let b = below v in
       let e : bit (shifted f v) 30 ≡ f v = omega arith in

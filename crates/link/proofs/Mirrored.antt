@@ -11,7 +11,7 @@ use Rattle.calendar.specs.declared.grant.Grant.{Grant}
 use Rattle.calendar.specs.Grants.{part_bits, output}
 use Rattle.calendar.specs.Rounds.{copies, whole, owed, part_at, first_copy, last_part, seed_at}
 use Rattle.calendar.specs.Courses.{Going, one_on}
-use Rattle.calendar.proofs.Counting.{Few, reads, seed_first, reads_now, reads-next, reads_same, part_below, last_gone}
+use Rattle.calendar.proofs.Counting.{Few, reads, seed_first, reads_now, reads_next, reads_same, part_below, last_gone}
 use Rattle.calendar.proofs.Rounds.{seed_small}
 use Rattle.air.specs.Cells.{Sending, part_of, sent_bits, one_sent}
 use Rattle.air.specs.Terminals.{Awaiting, Hearing, one_heard, finished, reading, block_of}
@@ -149,7 +149,7 @@ module _ (identity : ℕ) (small : identity ≤ 503) (m : Meaning) (law : Lawful
       ap₂ (λ (p : ℕ) (v : List ℕ). take (320 * p) w ++ part_of (part_at g k) v) (reads_now g k lasts.few h) (same_word h)
       ∙ take_join (320 * part_at g k) 320 w
       ∙ ap (λ (n : ℕ). take n w)
-      (let e = reads-next g k lasts.few h in
+      (let e = reads_next g k lasts.few h in
       let f : 320 * part_at g k + 320 ≡ 320 * suc (part_at g k) = omega arith in
       f ∙ ap (λ (p : ℕ). 320 * p) (sym e))
 
@@ -157,7 +157,7 @@ module _ (identity : ℕ) (small : identity ≤ 503) (m : Meaning) (law : Lawful
   read_all : first_copy g k ≡ true → last_part g k ≡ true → take (part_bits * reads g (suc k)) w ≡ w
   read_all h l =
       take_all (320 * reads g (suc k)) w
-      (omega (arith, (word_is 0).0, reads-next g k lasts.few h, eqb-true (part_at g k + 1) g.subframes l))
+      (omega (arith, (word_is 0).0, reads_next g k lasts.few h, eqb-true (part_at g k + 1) g.subframes l))
 
   module _ (cov : m.covers g.length (output g) ≡ true) where
     awaited_next : (read : List ℕ) → read ≡ take (part_bits * reads g (suc k)) w

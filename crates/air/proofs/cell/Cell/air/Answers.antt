@@ -5,7 +5,7 @@ use Rattle.calendar.specs.Courses.{going_of}
 use Rattle.air.specs.Cells.{CellState, Written, part_due, part_of, with_pending}
 use Rattle.air.specs.CellViews.{sending_of, cell_of}
 use Rattle.air.specs.Tables.{kept_bits}
-use Rattle.air.proofs.Tabled.{fitting_is, kept_next, fitting-next}
+use Rattle.air.proofs.Tabled.{fitting_is, kept_next, fitting_next}
 use Rattle.air.proofs.Writing.{airs_data, part_in}
 use Rattle.air.proofs.cell.Cell.air.Goals as goal
 
@@ -34,5 +34,5 @@ returns g c =
           c.part_start-from.ensures.value c.part_start-from.ensures.within
           ∙ ap (part_of (part_due (going_of course))) c.encode.ensures.word)
           ∙ ap (λ (w : Written g.row.P.Denot). w.grid) airs_is;
-      cell = ap (with_pending cell) (fitting-next m self.block course c.advanced-self.result fit c.advanced-self.ensures ∙ ap (λ (w : Written g.row.P.Denot). w.pending) airs_is);
+      cell = ap (with_pending cell) (fitting_next m self.block course c.advanced-self.result fit c.advanced-self.ensures ∙ ap (λ (w : Written g.row.P.Denot). w.pending) airs_is);
     }
