@@ -3,7 +3,8 @@
 
 Run once, after /opt/rattle/port/port.py, at the top of the repository. Types and facts are in upper camel case, all else is in snake
 case; a dash stays in a lemma's name where it joins the names of two functions, as in `length-xor`. It turns specs/ and proofs/ whole, and
-in src/ the clauses and the `ghost` lines; in a comment, names that its file's code has. What Rattle makes (goals, steps) and what is imported from the kit stays.
+in src/ the clauses and the `ghost` lines; in a comment, names that its file's code has. What Rattle makes
+(goals, steps) and what is imported from the kit stays.
 With --list it writes nothing and prints each name's old and new spelling.
 """
 
@@ -20,7 +21,6 @@ OTHERWISE = {
     "check-bits": "check_bits_of",
 }
 # The library's functions on lists and numbers, by which a lemma may be named.
-defined = set()
 LIBRARY = set("length take drop map append slice_index replicate fold cond filter sum".split())
 OURS = set(line.split(":")[0].strip() for line in open("crates.txt") if ":" in line)
 COMMENT = re.compile(r"(?<![^\s(){}.;,@])--[^\n]*|//[^\n]*")
@@ -66,8 +66,8 @@ def plain(name):
 
 
 def survey():
-    """The repository's functions, and its fields with a dash."""
-    functions, fields = set(), set()
+    """What a lemma may be named by, the definitions as they were spelled, and the fields."""
+    functions, defined, fields = set(LIBRARY), set(), set()
     for path in antt_files():
         text = open(path).read()
         names = made(text) if path.endswith(("Answers.antt", "Invariants.antt")) else set()
@@ -79,10 +79,10 @@ def survey():
                 defined.add(name)
         for body in re.findall(r"record [^\n]* where\n((?:  .*\n|\n)*)", text):
             fields.update(re.findall(r"^  pub ([^\s:]+) :", body, re.M))
-    return functions | LIBRARY, fields
+    return functions, defined, fields
 
 
-def spelled(name, functions):
+def spelled(name, functions, defined):
     if name in OTHERWISE or name in defined or name[:1].isupper():
         return plain(name)
     parts = [OTHERWISE.get(p, plain(p)) for p in name.split("-")]
@@ -96,7 +96,8 @@ def candidates(word):
     return re.fullmatch(r"[A-Za-z][A-Za-z0-9_]*(-[A-Za-z0-9_]+)+", body) or re.fullmatch(r"[a-z][a-z0-9_]*[A-Z][A-Za-z0-9_]*", body) and "-" not in body
 
 
-def turn(text, keep, functions, fields, table):
+def turn(text, keep, names, table):
+    functions, defined, fields = names
     code = set(WORD.findall(COMMENT.sub(" ", text)))
     comments = [m.span() for m in COMMENT.finditer(text)]
 
@@ -111,7 +112,7 @@ def turn(text, keep, functions, fields, table):
             head = re.search(r"([A-Za-z][^\s(){}.;,]*)\.$", before)
             if not head or head[1] not in ("grants", "options", "results", "outcomes") and not re.search(r"Rattle\.[^\s]*$", before):
                 return word
-        new = spelled(word, functions)
+        new = spelled(word, functions, defined)
         table.setdefault(word, new)
         return new
 
@@ -131,20 +132,20 @@ def clauses(text):
 
 
 def main():
-    functions, fields = survey()
+    names = survey()
     table, writes = {}, []
     for path in antt_files():
         text = open(path).read()
         keep = imported(text)
         if path.endswith(("Answers.antt", "Invariants.antt")):
             keep |= made(text)
-        writes.append((path, turn(text, keep, functions, fields, table)))
+        writes.append((path, turn(text, keep, names, table)))
     for path in sorted(glob.glob("crates/*/src/**/*.rt", recursive=True)):
         text = open(path).read()
         keep, out, at = imported(text), [], 0
         for start, end in sorted(clauses(text)):
             if start >= at:
-                out += [text[at:start], turn(text[start:end], keep, functions, fields, table)]
+                out += [text[at:start], turn(text[start:end], keep, names, table)]
                 at = end
         writes.append((path, "".join(out) + text[at:]))
     if "--list" in sys.argv:

@@ -18,7 +18,7 @@ use Rattle.air.specs.Terminals.{short_block, hears}
 use Rattle.air.specs.TerminalViews.{covered, covered_by, awaiting_of}
 use Rattle.air.proofs.Ordered.{all_pass}
 use Rattle.link.specs.Calls.{subframe}
-use Rattle.link.specs.Following.{LinkState, unheard, hearkens, followed, linked_on, handed_on}
+use Rattle.link.specs.Following.{LinkState, unheard, hearkens, followed, linked_on, handed_on, block_heard}
 use Rattle.link.specs.Links.{hears_in, heard_in}
 use Rattle.link.proofs.Passing.{length_most}
 
@@ -47,7 +47,7 @@ module _ {X : Type 0} (K : Kind X) (l : LinkState) (work side block : List ℕ) 
       ap₂ (λ (m n : ℕ). ltb m 7680 || ltb n 7680) (length-replicate {A = ℕ} (length work) 0) (length-replicate {A = ℕ} (length side) 0)
       ∙ (all_pass ((short work side, ShortBuffer) ∷ (not (eqb (length grid) 168), GridSize) ∷ []) accepted).0
 
-  -- what the hearing makes of both ends, of what is handed up, and of the answer
+  -- what the hearing makes of both ends, of what is handed up, of the answer and of the block buffer
   pub record HeardOn (l₁ : LinkState) (work₁ side₁ block₁ : List ℕ) (grid₁ : List X) : Type 0 where
     pub links : record { cell = l₁.cell; terminal = (hearkens K l₁.terminal (hears_in work₁ side₁ block₁) grid₁).0 }
         ≡ linked_on K l (heard_in work side block) (subframe work side grid)
@@ -57,6 +57,8 @@ module _ {X : Type 0} (K : Kind X) (l : LinkState) (work side block : List ℕ) 
         → r ≡ answered (result_err r) (hears K l₁.terminal block₁ grid₁).outcome
         → r ≡ answered (unheard K l.terminal (heard_in work side block) (airs K l.cell).grid)
         (hears K l.terminal block (airs K l.cell).grid).outcome
+    pub buffers : (r : Option EndFault) (b : List ℕ) → r ≡ unheard K l₁.terminal (hears_in work₁ side₁ block₁) grid₁
+        → b ≡ settled r block₁ (hears K l₁.terminal block₁ grid₁).buffer → b ≡ block_heard K l (heard_in work side block)
 
   -- the cell has been called: both ends, buffers and grid then
   module _ (l₁ : LinkState) (work₁ side₁ block₁ : List ℕ) (grid₁ : List X)
@@ -80,4 +82,9 @@ module _ {X : Type 0} (K : Kind X) (l : LinkState) (work side block : List ℕ) 
           ∙ ap (λ o. answered o (hears K l₁.terminal block₁ grid₁).outcome) turned
           ∙ (λ i. answered (unheard K (link_is i).terminal (hears_in (work_is i) (side_is i) (block_is i)) (grid_is i))
           (hears K (link_is i).terminal (block_is i) (grid_is i)).outcome);
+      buffers = λ r b turned is.
+          is
+          ∙ ap (λ o. settled o block₁ (hears K l₁.terminal block₁ grid₁).buffer) turned
+          ∙ (λ i. settled (unheard K (link_is i).terminal (hears_in (work_is i) (side_is i) (block_is i)) (grid_is i)) (block_is i)
+          (hears K (link_is i).terminal (block_is i) (grid_is i)).buffer);
     }

@@ -78,6 +78,11 @@ linked_on K l b x = record { cell = called K l.cell x; terminal = (followed K l 
 abbrev pub handed_on : {X : Type 0} → Kind X → LinkState → Buffers → Call X → List (List ℕ)
 handed_on K l b x = (followed K l b x).1
 
+-- what the block buffer holds once the terminal has heard the cell's subframe in it
+abbrev pub block_heard : {X : Type 0} → Kind X → LinkState → Buffers → List ℕ
+block_heard K l b =
+    settled (unheard K l.terminal b (airs K l.cell).grid) b.block (hears K l.terminal b.block (airs K l.cell).grid).buffer
+
 -- no number turns the terminal's buffers down where it hears
 abbrev pub Serves : {X : Type 0} → LinkState → Buffers → Call X → Type 0
 Serves l b (offer g work side) = Unit {0}

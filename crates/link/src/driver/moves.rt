@@ -1,4 +1,5 @@
 ghost use Rattle.std.specs.Prelude.{◌≡◌};
+ghost use Rattle.stage.specs.Bits.{zeros};
 ghost use Rattle.air.specs.Ends.{end_of};
 ghost use Rattle.link.specs.Account.{opened};
 ghost use Rattle.link.specs.Following.{on_air};
@@ -15,6 +16,7 @@ impl<S: Stage + Copy, P: Point> Link<S, P> {
     // Puts a cell and a terminal on air alike. Whatever list of calls follows, the terminal hands up exactly the blocks on the account.
     pub fn on_air(parked: Parked, chain: S) -> Link<S, P>
         ensures alike { link_of S.Stage.meaning result ≡ on_air (end_of parked) (S.Stage.meaning chain) }
+        ensures block { result.block ≡ zeros 2536 }
         ensures home { BlocksComeHome P.Point.kind (link_of S.Stage.meaning result) (opened (end_of parked) (S.Stage.meaning chain)) }
     {
         let twin = parked.twin();

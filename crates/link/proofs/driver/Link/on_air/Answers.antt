@@ -1,4 +1,4 @@
-use Rattle.std.proofs.Common.{sym, ap, ◌∙◌, subst, ap₂}
+use Rattle.std.proofs.Common.{sym, refl, ap, ◌∙◌, subst, ap₂}
 use Rattle.air.specs.Ends.{end_of}
 use Rattle.air.specs.TerminalViews.{tuned}
 use Rattle.link.specs.Account.{opened}
@@ -14,6 +14,7 @@ returns g c =
     let alike = ap₂ (λ u t. record { cell = u; terminal = t }) c.cell.ensures (c.terminal.ensures ∙ ap (λ x. tuned x m) c.twin-twin.ensures) in
     record {
       alike = alike;
+      block = refl;
       home = subst (λ (l : LinkState). BlocksComeHome g.P.Point.kind l (opened e m)) (sym alike)
           (blocks_come_home g.P.Point.kind g.met.P.Point.lawful m (g.met.S.Stage.lawful c.args.chain) e
           c.args.parked.identity.known c.args.parked.timed);

@@ -1,4 +1,5 @@
 use Rattle.std.proofs.Common.{length, Ok, sym, ap, ◌∙◌, subst, ap₂}
+use Rattle.std.proofs.lemmas.Bool.{true≢false}
 use Rattle.std.specs.Result.{result_err, result_unwrap_or}
 use Rattle.link.specs.Links.{link_of}
 use Rattle.link.specs.Sinks.{Taken}
@@ -29,6 +30,8 @@ returns g c =
         long_zeros K l work side self.block grid aired.refusal,
         room l.terminal.chain self.terminal.word self.terminal.awaited self.block (ap length (sym aired.block) ∙ heard.room),
       );
+      block = on.buffers (result_err c.hear-heard.result) c.hear-heard.new.self.block heard.refusal heard.block;
       work = heard.work ∙ stays_zero (result_err c.hear-heard.result) (length work) last.work aired.work;
       side = heard.side ∙ stays_zero (result_err c.hear-heard.result) (length side) last.side aired.side;
+      untouched = λ e. absurd (true≢false e);
     }
