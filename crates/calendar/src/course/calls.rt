@@ -97,8 +97,7 @@ impl Course {
     // What is left once the next open subframe is gone: nothing after the last.
     #[tactic(auto, using(crate::proofs::Openings::opens_next))]
     pub fn advanced(self) -> Option<Course>
-        ensures value { result ≡ one_on self }
-        ensures allowed { Allowed self.grant }
+        ensures { result ≡ one_on self }
     {
         if self.owed() == 0 {
             return None;
