@@ -87,15 +87,13 @@ module _ (t : Time) where
 
   -- past an open subframe there are more
   among_more : (j : ℕ) → open_among t j ≤ open_among t (suc j)
-  among_more j =
-      ⊎_elim (λ h. let e = past_closed j h in omega arith) (λ h. let e = past_open j h in omega arith) (cases_Bool (closed (later t j)))
+  among_more j = ⊎_elim (λ h. omega (arith, past_closed j h)) (λ h. omega (arith, past_open j h)) (cases_Bool (closed (later t j)))
 
   among_past : (i j : ℕ) → closed (later t i) ≡ false → i < j → open_among t i < open_among t j
   among_past i zero h l = absurd (omega arith)
   among_past i (suc j) h l =
-      let more = among_more j in
-      ⊎_elim (λ e. let p = past_open i h in subst (λ (x : ℕ). open_among t i < open_among t (suc x)) e (omega arith))
-      (λ ne. let p = among_past i j h (omega arith) in omega arith)
+      ⊎_elim (λ e. let p = ap (open_among t) e in omega (arith, past_open i h, p, ap (λ (k : ℕ). open_among t (suc k)) e))
+      (λ ne. omega (arith, among_more j, among_past i j h (omega arith)))
       (cases_eq i j)
 
   pub nth_only : (k : ℕ) (u v : Time) → NthOpen t k u → NthOpen t k v → u ≡ v
