@@ -1,7 +1,7 @@
 ghost use Rattle.std.specs.Prelude.{◌≡◌, not, ◌&&◌, [], ◌∷◌, ◌==◌};
 ghost use Rattle.std.specs.Result.{result_err};
 ghost use Rattle.stage.specs.Refusals.{first_fault, short};
-ghost use Rattle.air.specs.declared.fault.EndFault.TheVariants.{ShortBuffer, WordLength, GridSize};
+ghost use Rattle.air.specs.declared.fault.EndFault.TheVariants.{ShortBuffer, Pending, WordLength, GridSize};
 
 use crate::fault::EndFault;
 use stage::setting::MOST_BITS;
@@ -15,6 +15,16 @@ pub(crate) fn check_buffers(work: &[u8], side: &[u8]) -> Result<(), EndFault>
 {
     if work.len() < MOST_BITS || side.len() < MOST_BITS {
         return Err(EndFault::ShortBuffer);
+    }
+    Ok(())
+}
+
+// Test 14.
+pub(crate) fn check_free(busy: bool) -> Result<(), EndFault>
+    ensures { result_err result ≡ first_fault ((busy, Pending) ∷ []) }
+{
+    if busy {
+        return Err(EndFault::Pending);
     }
     Ok(())
 }
