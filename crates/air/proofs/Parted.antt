@@ -5,11 +5,10 @@ use Rattle.std.proofs.lemmas.Bool.{eqb-true}
 use Rattle.stage.specs.Meaning.{Meaning}
 use Rattle.calendar.specs.declared.grant.Grant.{Grant}
 use Rattle.calendar.specs.declared.time.Time.{Time}
-use Rattle.calendar.specs.Grants.{Allowed, output, grant_refusal}
+use Rattle.calendar.specs.Grants.{output}
 use Rattle.calendar.specs.Rounds.{owed, part_at, first_copy, last_part, seed_at}
 use Rattle.calendar.specs.Courses.{Going, begun, one_on}
-use Rattle.calendar.proofs.Counting.{copies_few, reads_none, reads_now, reads_next, reads_same}
-use Rattle.calendar.proofs.Rules.{allowed}
+use Rattle.calendar.proofs.Counting.{reads_none, reads_now, reads_next, reads_same}
 use Rattle.air.specs.declared.answers.Outcome.TheVariants.{Part, Block, Spoiled, Repeat as Again}
 use Rattle.air.specs.declared.terminal.slot.Slot.TheVariants.{FirstCopy, Repeat}
 use Rattle.air.specs.Terminals.{Awaiting, Hearing, block_of, one_heard, finished, reading, hearing}
@@ -20,9 +19,9 @@ pub same_grant : (P : Grant → Type 0) (g : Going) → P g.grant → ForSome (o
 same_grant P g p h e = let k : g.grant ≡ h.grant = grind arith in subst P k p
 
 -- of a grant that was just begun nothing is read
-pub begins : (table : List ℕ) (g : Grant) (t : Time) → grant_refusal g ≡ None → awaiting_of table (begun g t) ≡ record { going = begun g t; read = [] }
-begins table g t fine =
-    ap (λ (k : ℕ). record { going = begun g t; read = take (320 * k) table }) (reads_none g (copies_few g (allowed g fine).repeated))
+pub begins : (table : List ℕ) (g : Grant) (t : Time) → awaiting_of table (begun g t) ≡ record { going = begun g t; read = [] }
+begins table g t =
+    ap (λ (k : ℕ). record { going = begun g t; read = take (320 * k) table }) (reads_none g)
 
 -- what is left of a grant, once its word is read so far
 left : (g : Going) (table word read : List ℕ) → take (320 * parts_read g.grant (g.gone + 1)) table ≡ read
@@ -34,7 +33,7 @@ left g table word read e =
     [ true ↦ refl | false ↦ ap (λ (r : List ℕ). Some (record { going = s; read = r })) e ]
 
 -- an open subframe of an awaited grant
-module _ (identity : ℕ) (m : Meaning) (g : Going) (fine : Allowed g.grant) (shut : Bool) (o : Option Going) (some : o ≡ Some g)
+module _ (identity : ℕ) (m : Meaning) (g : Going) (shut : Bool) (o : Option Going) (some : o ≡ Some g)
     (word bits buffer : List ℕ) where
   abbrev a : Awaiting
   a = awaiting_of word g
@@ -60,7 +59,7 @@ module _ (identity : ℕ) (m : Meaning) (g : Going) (fine : Allowed g.grant) (sh
   again_heard slot =
       let now = slot_again slot in
       let same = ap (λ (k : ℕ). take (320 * k) word)
-      (ap (parts_read g.grant) (add-one g.gone) ∙ reads_same g.grant g.gone (copies_few g.grant fine.repeated) now.1) in
+      (ap (parts_read g.grant) (add-one g.gone) ∙ reads_same g.grant g.gone now.1) in
       ap (λ (p : Option Awaiting). record { outcome = Again; awaited = p; buffer = buffer }) (left g word word a.read same)
       ∙ reads false (last_part g.grant g.gone) now.0 now.1 refl
 
@@ -76,7 +75,7 @@ module _ (identity : ℕ) (m : Meaning) (g : Going) (fine : Allowed g.grant) (sh
     parts_next : parts_read g.grant (g.gone + 1) ≡ part + 1
     parts_next =
         ap (parts_read g.grant) (add-one g.gone)
-        ∙ reads_next g.grant g.gone (copies_few g.grant fine.repeated) (slot_first slot).1
+        ∙ reads_next g.grant g.gone (slot_first slot).1
         ∙ sym (add-one (part_at g.grant g.gone)) ∙ ap (λ (k : ℕ). k + 1) (sym part_is)
 
     read : take (320 * parts_read g.grant (g.gone + 1)) table ≡ all
@@ -84,7 +83,7 @@ module _ (identity : ℕ) (m : Meaning) (g : Going) (fine : Allowed g.grant) (sh
         let n : 320 * parts_read g.grant (g.gone + 1) ≡ 320 * part + 320 = omega (arith, parts_next) in
         ap (λ (k : ℕ). take k table) n ∙ put
         ∙ ap (λ (k : ℕ). take (320 * k) word ++ bits)
-        (part_is ∙ sym (reads_now g.grant g.gone (copies_few g.grant fine.repeated) (slot_first slot).1))
+        (part_is ∙ sym (reads_now g.grant g.gone (slot_first slot).1))
 
     kept : option_map (awaiting_of table) (one_on g) ≡ one_heard a all
     kept = left g table word all read

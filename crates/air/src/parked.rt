@@ -10,14 +10,13 @@ pub struct Parked {
 }
 
 impl Model for Parked {
-    ghost use Rattle.std.specs.Prelude.{◌≤◌};
-    ghost use Rattle.air.specs.Ends.{End};
+    ghost use Rattle.air.specs.Ends.{End, InRange};
 
     ghost Value = { End };
 
     ghost view = { λ p. record { identity = p.identity; time = p.time } };
 
-    ghost invariant = { λ p. (p.time.frame ≤ 1023) × (p.time.subframe ≤ 9) };
+    ghost invariant = { λ p. InRange (record { identity = p.identity; time = p.time }) };
 }
 
 mod calls;

@@ -1,6 +1,6 @@
 ghost use Rattle.std.specs.Prelude.{◌≡◌, OnErr};
 ghost use Rattle.calendar.specs.Times.{after};
-ghost use Rattle.air.specs.Ends.{fresh, with_identity, with_time};
+ghost use Rattle.air.specs.Ends.{InRange, fresh, with_identity, with_time};
 
 use crate::fault::ParkFault;
 use crate::parked::Parked;
@@ -69,7 +69,8 @@ impl Parked {
 
     // Another parked end with this one's identity and time.
     pub fn twin(&self) -> Parked
-        ensures { result ≡ self.now }
+        ensures same { result ≡ self.now }
+        ensures ranged { InRange result }
     {
         Parked {
             identity: self.identity,

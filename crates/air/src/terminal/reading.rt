@@ -2,7 +2,7 @@ ghost use Rattle.std.specs.Prelude.{◌≡◌, ◌+◌, ◌≤◌, true, false, 
 ghost use Rattle.std.specs.Option.{option_map};
 ghost use Rattle.std.specs.Result.{result_ok};
 ghost use Rattle.stage.specs.Refusals.{short};
-ghost use Rattle.calendar.specs.Grants.{Allowed, output};
+ghost use Rattle.calendar.specs.Grants.{output};
 ghost use Rattle.calendar.specs.Rounds.{seed_at};
 ghost use Rattle.calendar.specs.Times.{closed};
 ghost use Rattle.air.specs.declared.terminal.slot.Slot.TheVariants.{FirstCopy};
@@ -100,7 +100,6 @@ impl<S: Stage, P: Point> Terminal<S, P> {
         requires roomy { short work.old side.old ≡ false }
         ensures block { option_map (λ n. take n work.new) (result_ok result) ≡ block_of (S.Stage.meaning self.now.chain) course.grant.length (output course.grant) (seed_at self.now.end.identity course.grant course.start course.gone) (take (output course.grant) self.now.word) }
         ensures length { IfOk result (λ n. n ≡ course.grant.length) }
-        ensures allowed { Allowed course.grant }
     {
         let setting = round_setting(course, self.end.known());
         copy_front(work, &self.word, course.output());

@@ -43,7 +43,7 @@ impl Course {
         ensures value { result ≡ part_at self.grant self.gone }
         ensures below { result < self.grant.subframes }
     {
-        self.place() / self.copies()
+        self.gone % self.round() / self.copies()
     }
 
     // How many open subframes are owed after the next one.
@@ -74,7 +74,9 @@ impl Course {
         ensures value { result ≡ seed_at identity self.grant self.start self.gone }
         ensures most { result < 2 ^ 31 }
     {
-        self.seed_from(identity, self.first)
+        let parity = self.first.frame as u32 % 2;
+        let subframe = self.first.subframe as u32;
+        (self.grant.rnti << 14) + (parity << 13) + (subframe << 9) + identity.value() as u32
     }
 
     // The length of the word.
@@ -97,19 +99,17 @@ impl Course {
     // What is left once the next open subframe is gone: nothing after the last.
     #[tactic(auto, using(crate::proofs::Openings::opens_next))]
     pub fn advanced(self) -> Option<Course>
-        ensures value { result ≡ one_on self }
-        ensures allowed { Allowed self.grant }
+        ensures { result ≡ one_on self }
     {
         if self.owed() == 0 {
             return None;
         }
         let following = self.next.step().next_open();
         Some(Course {
-            grant: self.grant,
-            start: self.start,
             gone: self.gone + 1,
             next: following,
             first: self.round_start(following),
+            ..self
         })
     }
 
@@ -124,23 +124,6 @@ impl Course {
         } else {
             self.first
         }
-    }
-
-    // The seed of a round from its first open subframe.
-    fn seed_from(self, identity: Identity, time: Time) -> u32
-        ensures value { result ≡ seed_of identity self.grant.rnti time }
-        ensures most { result < 2 ^ 31 }
-    {
-        let parity = time.frame as u32 % 2;
-        let subframe = time.subframe as u32;
-        (self.grant.rnti << 14) + (parity << 13) + (subframe << 9) + identity.value() as u32
-    }
-
-    // How many open subframes of the round under way are gone.
-    fn place(self) -> u32
-        ensures { result ≡ self.gone % round self.grant }
-    {
-        self.gone % self.round()
     }
 
     // How often running a part goes out.

@@ -17,4 +17,4 @@ returns-clause-terminal g c =
     let self = c.args.self.now in
     let t = terminal_of g.S.Stage.meaning self in
     rw (c.in_ok-course.ensures.accepted, c.time.ensures)
-    (ap (λ (a : Awaiting). with_awaited t (Some a)) (begins self.word c.args.grant t.time (sym c.in_ok-course.ensures.refusal)))
+    (ap (λ (a : Awaiting). with_awaited t (Some a)) (begins self.word c.args.grant t.time))

@@ -10,6 +10,6 @@ returns-in-Some-Repeat-clause-terminal g c =
     let t = terminal_of g.S.Stage.meaning self in
     let a = c.in-Some-Repeat in
     let is =
-    again_heard t.identity t.chain a.course c.advanced-self.ensures.allowed _ self.awaited a.is-0 self.word c.args.bits.now
+    again_heard t.identity t.chain a.course _ self.awaited a.is-0 self.word c.args.bits.now
     c.args.block.now (sym c.requires.slot ∙ a.is-1) in
-    rw c.advanced-self.ensures.value (ap (λ (h : Hearing). with_awaited t h.awaited) is)
+    rw c.advanced-self.ensures (ap (λ (h : Hearing). with_awaited t h.awaited) is)
