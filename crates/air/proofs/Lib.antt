@@ -1,12 +1,6 @@
 pub mod Ordered
-pub mod Ending
-pub mod Ranges
-pub mod Offering
-pub mod Tabled
-pub mod Encoding
-pub mod Writing
 pub mod Tested
+pub mod Writing
 pub mod Found
-pub mod Decoded
+pub mod Coding
 pub mod Parted
-pub mod Heard

@@ -1,154 +1,114 @@
--- The word of an awaited grant, part by part. Assumes nothing.
-use Rattle.std.proofs.Common.{◌≡◌, ℕ, ◌+◌, ◌*◌, Bool, true, false, cond, eqb, List, [], ◌++◌, take, is_some, Some, None, Option, sym, refl, ap, ◌∙◌, ap₂, add-one, arith}
-use Rattle.std.specs.Option.{option_map}
-use Rattle.std.proofs.lemmas.Bool.{eqb-true, both_ways}
+-- The word of an awaited grant, part by part, and what is heard of a subframe. Assumes nothing.
+use Rattle.std.proofs.Common.{◌≡◌, ℕ, ◌+◌, ◌*◌, Bool, true, false, cond, eqb, List, [], ◌++◌, take, drop, Some, None, Option, sym, refl, ap, ◌∙◌, ap₂, subst, add-one, arith}
+use Rattle.std.specs.Option.{ForSome, option_map}
+use Rattle.std.proofs.lemmas.Bool.{eqb-true}
 use Rattle.stage.specs.Meaning.{Meaning}
-use Rattle.calendar.specs.declared.course.Course.{Course}
 use Rattle.calendar.specs.declared.grant.Grant.{Grant}
 use Rattle.calendar.specs.declared.time.Time.{Time}
 use Rattle.calendar.specs.Grants.{output}
 use Rattle.calendar.specs.Rounds.{owed, part_at, first_copy, last_part, seed_at}
-use Rattle.calendar.specs.Courses.{Going, going_of, begun, one_on}
+use Rattle.calendar.specs.Courses.{Going, begun, one_on}
 use Rattle.calendar.proofs.Counting.{reads_none, reads_now, reads_next, reads_same}
-use Rattle.air.specs.declared.answers.Outcome.{Outcome}
-use Rattle.air.specs.declared.answers.Outcome.TheVariants.{Part, Block, Spoiled}
-use Rattle.air.specs.Terminals.{Awaiting, Hearing, block_of, one_heard, finished, reading}
-use Rattle.air.specs.TerminalViews.{parts_read, awaiting_of, covered, covered_by, filled}
+use Rattle.air.specs.declared.answers.Outcome.TheVariants.{Part, Block, Spoiled, Repeat as Again}
+use Rattle.air.specs.declared.terminal.slot.Slot.TheVariants.{FirstCopy, Repeat}
+use Rattle.air.specs.Terminals.{Awaiting, Hearing, block_of, one_heard, finished, reading, hearing}
+use Rattle.air.specs.TerminalViews.{parts_read, awaiting_of, slot_of}
 
--- what a going of a covered grant is in memory
-module _ (m : Meaning) (table : List ℕ) where
-  abbrev seen : Going → Option Awaiting
-  seen g =
-      cond (covered m g.grant) (Some (record { going = g; read = take (320 * parts_read g.grant g.gone) table })) None
+-- one subframe on, the grant is the same
+pub same_grant : (P : Grant → Type 0) (g : Going) → P g.grant → ForSome (one_on g) (λ h. P h.grant)
+same_grant P g p h e = let k : g.grant ≡ h.grant = grind arith in subst P k p
 
-  seen_is : (g : Going) (read : List ℕ) → covered m g.grant ≡ true → take (320 * parts_read g.grant g.gone) table ≡ read
-      → seen g ≡ Some (record { going = g; read = read })
-  seen_is g read h e =
-      ap₂ (λ (v : Bool) (r : List ℕ). cond v (Some (record { going = g; read = r })) None) h e
+-- of a grant that was just begun nothing is read
+pub begins : (table : List ℕ) (g : Grant) (t : Time) → awaiting_of table (begun g t) ≡ record { going = begun g t; read = [] }
+begins table g t =
+    ap (λ (k : ℕ). record { going = begun g t; read = take (320 * k) table }) (reads_none g)
 
-  -- a grant that was just begun
-  pub covered-begun : (c : Course) (g : Grant) (t : Time) → going_of c ≡ begun g t → covered m g ≡ true
-      → covered_by m table (Some c) ≡ Some (record { going = begun g t; read = [] })
-  covered-begun c g t e h =
-      ap seen e
-      ∙ seen_is (begun g t) [] h
-      (ap (λ (k : ℕ). take (320 * k) table) (reads_none g))
+-- what is left of a grant, once its word is read so far
+left : (g : Going) (table word read : List ℕ) → take (320 * parts_read g.grant (g.gone + 1)) table ≡ read
+    → option_map (awaiting_of table) (one_on g) ≡ one_heard (awaiting_of word g) read
+left g table word read e =
+    let s : Going = record { grant = g.grant; start = g.start; gone = g.gone + 1 } in
+    elim (eqb (owed g.grant g.gone) 0)
+    as (λ b. option_map (awaiting_of table) (cond b None (Some s)) ≡ option_map (λ (h : Going). record { going = h; read = read }) (cond b None (Some s)))
+    [ true ↦ refl | false ↦ ap (λ (r : List ℕ). Some (record { going = s; read = r })) e ]
 
-  -- what is left of a covered grant is covered
-  pub covered_next : (c : Course) (word read : List ℕ) (r : Option Course) → covered m c.grant ≡ true → r ≡ one_on (going_of c)
-      → take (320 * parts_read c.grant (c.gone + 1)) table ≡ read → covered_by m table r ≡ one_heard (awaiting_of word c) read
-  covered_next c word read None h e k = ap (option_map (λ (g : Going). record { going = g; read = read })) e
-  covered_next c word read (Some q) h e k = go (eqb (owed c.grant c.gone) 0) e
-    where
-      s : Going
-      s = record { grant = c.grant; start = c.start; gone = c.gone + 1 }
+-- an open subframe of an awaited grant
+module _ (identity : ℕ) (m : Meaning) (g : Going) (shut : Bool) (o : Option Going) (some : o ≡ Some g)
+    (word bits buffer : List ℕ) where
+  abbrev a : Awaiting
+  a = awaiting_of word g
 
-      go : (b : Bool) → Some (going_of q) ≡ cond b None (Some s)
-          → covered_by m table (Some q) ≡ option_map (λ (g : Going). record { going = g; read = read }) (cond b None (Some s))
-      go true l = let z : ◌≡◌ {A = ℕ} 0 1 = cc in absurd (let w : ⊥ = omega arith in w)
-      go false l = let i : going_of q ≡ s = cc in ap seen i ∙ seen_is s read h k
+  abbrev heard : Hearing
+  heard = hearing identity m shut (option_map (awaiting_of word) o) bits buffer
 
-module _ (c : Course) where
-  module _ (first : first_copy c.grant c.gone ≡ true) where
-    parts_next : parts_read c.grant (c.gone + 1) ≡ part_at c.grant c.gone + 1
-    parts_next =
-        ap (parts_read c.grant) (add-one c.gone) ∙ reads_next c.grant c.gone first ∙ sym (add-one (part_at c.grant c.gone))
+  reads : (first last : Bool) → shut ≡ false → first_copy g.grant g.gone ≡ first → last_part g.grant g.gone ≡ last
+      → reading identity m a bits buffer first last ≡ heard
+  reads first last free f l =
+      ap₂ (λ (u v : Bool). reading identity m a bits buffer u v) (sym f) (sym l)
+      ∙ ap₂ (λ (u : Bool) (p : Option Going). hearing identity m u (option_map (awaiting_of word) p) bits buffer) (sym free) (sym some)
 
-    -- the word with the part
-    read_next : (part : ℕ) → part ≡ part_at c.grant c.gone → (table word bits : List ℕ)
-        → take (320 * part + 320) table ≡ take (320 * part) word ++ bits
-        → take (320 * parts_read c.grant (c.gone + 1)) table ≡ (awaiting_of word c).read ++ bits
-    read_next part e table word bits h =
-        let n : 320 * parts_read c.grant (c.gone + 1) ≡ 320 * part + 320 = omega (arith, parts_next, e) in
-        ap (λ (k : ℕ). take k table) n ∙ h
-        ∙ ap (λ (k : ℕ). take (320 * k) word ++ bits) (e ∙ sym (reads_now c.grant c.gone first))
+  slot_first : slot_of shut o ≡ FirstCopy → (shut ≡ false) × (first_copy g.grant g.gone ≡ true)
+  slot_first h = let k : slot_of shut (Some g) ≡ FirstCopy = ap (slot_of shut) (sym some) ∙ h in grind arith
 
-    -- the last part makes the word whole
-    whole_word : last_part c.grant c.gone ≡ true → (table : List ℕ)
-        → take (output c.grant) table ≡ take (320 * parts_read c.grant (c.gone + 1)) table
-    whole_word last table =
-        ap (λ (k : ℕ). take (320 * k) table) (sym (parts_next ∙ eqb-true (part_at c.grant c.gone + 1) c.grant.subframes last))
+  slot_again : slot_of shut o ≡ Repeat → (shut ≡ false) × (first_copy g.grant g.gone ≡ false)
+  slot_again h = let k : slot_of shut (Some g) ≡ Repeat = ap (slot_of shut) (sym some) ∙ h in grind arith
 
   -- a repeat leaves the word as it was
-  pub read_same : first_copy c.grant c.gone ≡ false → (word : List ℕ)
-      → take (320 * parts_read c.grant (c.gone + 1)) word ≡ (awaiting_of word c).read
-  read_same repeat word =
-      ap (λ (k : ℕ). take (320 * k) word) (ap (parts_read c.grant) (add-one c.gone) ∙ reads_same c.grant c.gone repeat)
+  pub again_heard : slot_of shut o ≡ Repeat
+      → record { outcome = Again; awaited = option_map (awaiting_of word) (one_on g); buffer = buffer } ≡ heard
+  again_heard slot =
+      let now = slot_again slot in
+      let same = ap (λ (k : ℕ). take (320 * k) word)
+      (ap (parts_read g.grant) (add-one g.gone) ∙ reads_same g.grant g.gone now.1) in
+      ap (λ (p : Option Awaiting). record { outcome = Again; awaited = p; buffer = buffer }) (left g word word a.read same)
+      ∙ reads false (last_part g.grant g.gone) now.0 now.1 refl
 
--- what a hearing comes to: the outcome, the block buffer, and what is then awaited
-pub record Comes (h : Hearing) (outcome : Outcome) (buffer : List ℕ) (left : Option Awaiting) : Type 0 where
-  pub outcome_is : outcome ≡ h.outcome
-  pub buffer_is : buffer ≡ h.buffer
-  pub awaited_is : left ≡ h.awaited
+  -- the first copy of a part, whose bits are put into the table
+  module _ (slot : slot_of shut o ≡ FirstCopy) (part : ℕ) (part_is : part ≡ part_at g.grant g.gone) (table : List ℕ)
+      (put : take (320 * part + 320) table ≡ take (320 * part) word ++ bits) where
+    abbrev all : List ℕ
+    all = a.read ++ bits
 
-ends_block : (a : Awaiting) (read buffer : List ℕ) (o : Option (List ℕ)) → true ≡ is_some o
-    → Comes (finished a read buffer o) Block (filled o a.going.grant.length buffer) (one_heard a read)
-ends_block a read buffer None e = absurd (both_ways true e refl)
-ends_block a read buffer (Some b) e = record { outcome_is = refl; buffer_is = refl; awaited_is = refl }
+    abbrev found : List ℕ → Option (List ℕ)
+    found w = block_of m g.grant.length (output g.grant) (seed_at identity g.grant g.start g.gone) w
 
-ends_spoiled : (a : Awaiting) (read buffer : List ℕ) (o : Option (List ℕ)) → false ≡ is_some o
-    → Comes (finished a read buffer o) Spoiled (filled o a.going.grant.length buffer) None
-ends_spoiled a read buffer None e = record { outcome_is = refl; buffer_is = refl; awaited_is = refl }
-ends_spoiled a read buffer (Some b) e = absurd (both_ways true (sym e) refl)
+    parts_next : parts_read g.grant (g.gone + 1) ≡ part + 1
+    parts_next =
+        ap (parts_read g.grant) (add-one g.gone)
+        ∙ reads_next g.grant g.gone (slot_first slot).1
+        ∙ sym (add-one (part_at g.grant g.gone)) ∙ ap (λ (k : ℕ). k + 1) (sym part_is)
 
--- the first copy of a part, whose bits are put into the table
-module _ (m : Meaning) (identity : ℕ) (c : Course) (fits : covered m c.grant ≡ true) (first : first_copy c.grant c.gone ≡ true)
-    (part : ℕ) (part_is : part ≡ part_at c.grant c.gone) (word table bits buffer : List ℕ)
-    (put : take (320 * part + 320) table ≡ take (320 * part) word ++ bits) where
-  abbrev at : Bool → Hearing
-  at last = reading identity m (awaiting_of word c) bits buffer true last
+    read : take (320 * parts_read g.grant (g.gone + 1)) table ≡ all
+    read =
+        let n : 320 * parts_read g.grant (g.gone + 1) ≡ 320 * part + 320 = omega (arith, parts_next) in
+        ap (λ (k : ℕ). take k table) n ∙ put
+        ∙ ap (λ (k : ℕ). take (320 * k) word ++ bits)
+        (part_is ∙ sym (reads_now g.grant g.gone (slot_first slot).1))
 
-  abbrev the_last : Bool
-  the_last = last_part c.grant c.gone
+    kept : option_map (awaiting_of table) (one_on g) ≡ one_heard a all
+    kept = left g table word all read
 
-  abbrev found : List ℕ → Option (List ℕ)
-  found w = block_of m c.grant.length (output c.grant) (seed_at identity c.grant c.start c.gone) w
+    pub part_heard : last_part g.grant g.gone ≡ false
+        → record { outcome = Part part; awaited = option_map (awaiting_of table) (one_on g); buffer = buffer } ≡ heard
+    part_heard last =
+        ap₂ (λ (k : ℕ) (p : Option Awaiting). record { outcome = Part k; awaited = p; buffer = buffer }) part_is kept
+        ∙ reads true false (slot_first slot).0 (slot_first slot).1 last
 
-  abbrev all : List ℕ
-  all = (awaiting_of word c).read ++ bits
+    module _ (last : last_part g.grant g.gone ≡ true) where
+      whole : found (take (output g.grant) table) ≡ found all
+      whole =
+          let n : part + 1 ≡ g.grant.subframes = ap (λ (k : ℕ). k + 1) part_is ∙ eqb-true (part_at g.grant g.gone + 1) g.grant.subframes last in
+          ap found (ap (λ (k : ℕ). take (320 * k) table) (sym n ∙ sym parts_next) ∙ read)
 
-  read : take (320 * parts_read c.grant (c.gone + 1)) table ≡ all
-  read = read_next c first part part_is table word bits put
+      ends : finished a all buffer (found (take (output g.grant) table)) ≡ heard
+      ends = ap (finished a all buffer) whole ∙ reads true true (slot_first slot).0 (slot_first slot).1 last
 
-  left : (r : Option Course) → r ≡ one_on (going_of c) → covered_by m table r ≡ one_heard (awaiting_of word c) all
-  left r e = covered_next m table c word all r fits e read
+      pub block_heard : (b : List ℕ) → Some b ≡ found (take (output g.grant) table)
+          → record { outcome = Block; awaited = option_map (awaiting_of table) (one_on g); buffer = b ++ drop g.grant.length buffer } ≡ heard
+      block_heard b is =
+          ap (λ (p : Option Awaiting). record { outcome = Block; awaited = p; buffer = b ++ drop g.grant.length buffer }) kept
+          ∙ ap (finished a all buffer) is ∙ ends
 
-  lasting : (v : Bool) (outcome : Outcome) (filling : List ℕ) (rest : Option Awaiting) → the_last ≡ v → Comes (at v) outcome filling rest
-      → Comes (at the_last) outcome filling rest
-  lasting v outcome filling rest e h = record {
-    outcome_is = h.outcome_is ∙ sym (ap (λ (l : Bool). (at l).outcome) e);
-    buffer_is = h.buffer_is ∙ sym (ap (λ (l : Bool). (at l).buffer) e);
-    awaited_is = h.awaited_is ∙ sym (ap (λ (l : Bool). (at l).awaited) e);
-  }
-
-  pub part_comes : the_last ≡ false → (r : Option Course) → r ≡ one_on (going_of c)
-      → Comes (at the_last) (Part part) buffer (covered_by m table r)
-  part_comes e r on =
-      lasting false (Part part) buffer (covered_by m table r) e
-      (record { outcome_is = ap (λ (n : ℕ). Part n) part_is; buffer_is = refl; awaited_is = left r on })
-
-  module _ (e : the_last ≡ true) where
-    whole : take (output c.grant) table ≡ all
-    whole = whole_word c first e table ∙ read
-
-    pub block_comes : true ≡ is_some (found (take (output c.grant) table)) → (r : Option Course) → r ≡ one_on (going_of c)
-        → Comes (at the_last) Block (filled (found (take (output c.grant) table)) c.grant.length buffer) (covered_by m table r)
-    block_comes is r on =
-        let ends = ends_block (awaiting_of word c) all buffer (found all) (is ∙ ap (λ (w : List ℕ). is_some (found w)) whole) in
-        lasting true Block (filled (found (take (output c.grant) table)) c.grant.length buffer) (covered_by m table r) e
-        (record {
-          outcome_is = ends.outcome_is;
-          buffer_is = ap (λ (w : List ℕ). filled (found w) c.grant.length buffer) whole ∙ ends.buffer_is;
-          awaited_is = left r on ∙ ends.awaited_is;
-        })
-
-    pub spoiled_comes : false ≡ is_some (found (take (output c.grant) table))
-        → Comes (at the_last) Spoiled (filled (found (take (output c.grant) table)) c.grant.length buffer) None
-    spoiled_comes is =
-        let ends = ends_spoiled (awaiting_of word c) all buffer (found all) (is ∙ ap (λ (w : List ℕ). is_some (found w)) whole) in
-        lasting true Spoiled (filled (found (take (output c.grant) table)) c.grant.length buffer) None e
-        (record {
-          outcome_is = ends.outcome_is;
-          buffer_is = ap (λ (w : List ℕ). filled (found w) c.grant.length buffer) whole ∙ ends.buffer_is;
-          awaited_is = ends.awaited_is;
-        })
+      pub spoiled_heard : None ≡ found (take (output g.grant) table)
+          → record { outcome = Spoiled; awaited = None; buffer = buffer } ≡ heard
+      spoiled_heard is = ap (finished a all buffer) is ∙ ends

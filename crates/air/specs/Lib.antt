@@ -3,6 +3,6 @@ pub mod Ends
 pub mod Refusals
 pub mod Cells
 pub mod Terminals
-pub mod Tables
+pub mod Fits
 pub mod CellViews
 pub mod TerminalViews

@@ -1,8 +1,6 @@
 ghost use Rattle.std.specs.Prelude.{◌≡◌, ◌≤◌, ◌++◌, length, take, drop};
 ghost use Rattle.stage.specs.Bits.{zeros};
 
-use stage::buffers::clear_from;
-
 // Copies the first n bytes of one buffer to the start of another.
 pub(crate) fn copy_front(to: &mut [u8], from: &[u8], n: usize)
     requires { (n ≤ length to.old) × (n ≤ length from.now) }
@@ -18,6 +16,6 @@ pub(crate) fn clear_both(work: &mut [u8], side: &mut [u8])
     ensures work { work.new ≡ zeros (length work.old) }
     ensures side { side.new ≡ zeros (length side.old) }
 {
-    clear_from(work, 0);
-    clear_from(side, 0);
+    work.fill(0);
+    side.fill(0);
 }

@@ -1,32 +1,32 @@
-ghost use Rattle.std.specs.Prelude.{◌≡◌, ◌≤◌, true, false, [], ◌∷◌, length, take, is_some, is_ok, IfOk, Some, None};
+ghost use Rattle.std.specs.Prelude.{◌≡◌, ◌≤◌, true, length, take, is_some, IfOk, OnErr, Some};
 ghost use Rattle.std.specs.Result.{result_err};
 ghost use Rattle.stage.specs.Bits.{binary, zeros};
-ghost use Rattle.stage.specs.Refusals.{first_fault};
-ghost use Rattle.calendar.specs.Courses.{going_of, begun};
-ghost use Rattle.air.specs.declared.fault.EndFault.TheVariants.{Pending};
+ghost use Rattle.calendar.specs.Courses.{begun};
 ghost use Rattle.air.specs.Cells.{offered};
 ghost use Rattle.air.specs.CellViews.{cell_of};
+ghost use Rattle.air.specs.Fits.{fits};
 ghost use Rattle.air.specs.Refusals.{offer_refusal, settled};
 
+use crate::asking::{asking, word_length};
 use crate::buffers::{clear_both, copy_front};
 use crate::cell::Cell;
-use crate::checks::{check_buffers, check_word};
+use crate::checks::{check_buffers, check_free, check_word};
 use crate::fault::EndFault;
 use calendar::course::Course;
 use calendar::grant::Grant;
 use point::Point;
 use stage::admission::admit_forward;
-use stage::setting::Setting;
 use stage::stages::Stage;
 
 impl<S: Stage, P: Point> Cell<S, P> {
     // Takes a grant, and its block from the first bytes of the work buffer. Tests 4 and 10 to 16.
+    #[tactic(auto, unfolding(crate::specs::Refusals::offer_refusal))]
     pub fn offer(&mut self, grant: Grant, work: &mut [u8], side: &mut [u8]) -> Result<(), EndFault>
         ensures refusal { result_err result ≡ offer_refusal (cell_of S.Stage.meaning self.old).chain (is_some (cell_of S.Stage.meaning self.old).pending) grant work.old side.old }
         ensures cell { cell_of S.Stage.meaning self.new ≡ settled (result_err result) (cell_of S.Stage.meaning self.old) (offered (cell_of S.Stage.meaning self.old) grant work.old) }
         ensures work { work.new ≡ settled (result_err result) work.old (zeros (length work.old)) }
         ensures side { side.new ≡ settled (result_err result) side.old (zeros (length side.old)) }
-        ensures untouched { is_ok result ≡ false → self.new ≡ self.old }
+        ensures untouched { OnErr result (self.new ≡ self.old) }
     {
         let course = self.admit(grant, work, side)?;
         self.note(course, work);
@@ -35,42 +35,30 @@ impl<S: Stage, P: Point> Cell<S, P> {
     }
 
     // The tests of `offer`: the course that the grant then begins.
+    #[tactic(auto, unfolding(crate::specs::Refusals::offer_refusal))]
     fn admit(&self, grant: Grant, work: &[u8], side: &[u8]) -> Result<Course, EndFault>
         ensures refusal { result_err result ≡ offer_refusal (cell_of S.Stage.meaning self.now).chain (is_some (cell_of S.Stage.meaning self.now).pending) grant work.now side.now }
-        ensures accepted { IfOk result (λ c. going_of c ≡ begun grant (cell_of S.Stage.meaning self.now).time) }
+        ensures accepted { IfOk result (λ c. c ≡ begun grant self.now.end.time) }
     {
         check_buffers(work, side)?;
         let course = Course::begin(grant, self.end.time())?;
-        self.check_free()?;
-        let output = grant.output();
-        let setting = Setting { output, seed: 0 };
-        let size = self.chain.length(grant.length, setting);
-        check_word(size, output)?;
-        admit_forward(grant.length, setting, size, work, side)?;
+        check_free(self.pending.is_some())?;
+        let size = word_length(&self.chain, course);
+        check_word(size, course.output())?;
+        admit_forward(course.length(), asking(course), size, work, side)?;
         Ok(course)
-    }
-
-    // Test 14.
-    fn check_free(&self) -> Result<(), EndFault>
-        ensures { result_err result ≡ first_fault ((is_some (cell_of S.Stage.meaning self.now).pending, Pending) ∷ []) }
-    {
-        if self.is_busy() {
-            return Err(EndFault::Pending);
-        }
-        Ok(())
     }
 
     // Keeps a course, and its block from the first bytes of the work buffer.
     fn note(&mut self, course: Course, work: &[u8])
-        requires bits { binary (take (going_of course).grant.length work.now) ≡ true }
+        requires bits { binary (take course.grant.length work.now) ≡ true }
+        requires fits { fits (S.Stage.meaning self.old.chain) course.grant ≡ true }
         requires roomy { 2536 ≤ length work.now }
         ensures end { self.new.end ≡ self.old.end }
         ensures chain { self.new.chain ≡ self.old.chain }
         ensures pending { self.new.pending ≡ Some course }
-        ensures block { take (going_of course).grant.length self.new.block ≡ take (going_of course).grant.length work.now }
+        ensures block { take course.grant.length self.new.block ≡ take course.grant.length work.now }
     {
-        // The table holds the pending grant's bits, so nothing is pending while it changes.
-        self.pending = None;
         copy_front(&mut self.block, work, course.length());
         self.pending = Some(course);
     }

@@ -1,16 +1,16 @@
-ghost use Rattle.std.specs.Prelude.{◌≡◌, ◌+◌, ◌*◌, ◌^◌, ◌<◌, ◌≤◌, false, length, take, is_ok, Some, Ok};
+ghost use Rattle.std.specs.Prelude.{◌≡◌, ◌+◌, ◌*◌, ◌≤◌, false, length, take, OnErr, Some, Ok};
 ghost use Rattle.std.specs.Result.{result_err};
 ghost use Rattle.stage.specs.Bits.{zeros};
-ghost use Rattle.calendar.specs.Courses.{going_of};
+ghost use Rattle.stage.specs.Refusals.{short};
 ghost use Rattle.calendar.specs.Grants.{part_bits, output};
-ghost use Rattle.calendar.specs.Rounds.{owed, seed_at};
+ghost use Rattle.calendar.specs.Rounds.{owed};
 ghost use Rattle.air.specs.declared.answers.Airing.TheVariants.{Data};
 ghost use Rattle.air.specs.Cells.{airs, stepped, with_pending, round_word, part_due};
-ghost use Rattle.air.specs.CellViews.{fitting, sending_of, cell_of};
-ghost use Rattle.air.specs.Ends.{end_of};
+ghost use Rattle.air.specs.CellViews.{sending_of, cell_of};
 ghost use Rattle.air.specs.Refusals.{subframe_refusal, settled, answered};
 
 use crate::answers::Airing;
+use crate::asking::round_setting;
 use crate::buffers::{clear_both, copy_front};
 use crate::cell::Cell;
 use crate::checks::{check_buffers, check_grid};
@@ -20,11 +20,11 @@ use calendar::grant::PART_BITS;
 use grid::subframe::{write_closed, write_data, write_idle};
 use point::Point;
 use stage::fault::StageFault;
-use stage::setting::Setting;
 use stage::stages::Stage;
 
 impl<S: Stage, P: Point> Cell<S, P> {
     // Writes the grid of the subframe that the clock stands at, and steps the clock. Tests 4 and 17.
+    #[tactic(auto, unfolding(crate::specs::Refusals::subframe_refusal))]
     pub fn subframe(
         &mut self,
         grid: &mut [P],
@@ -37,7 +37,7 @@ impl<S: Stage, P: Point> Cell<S, P> {
         ensures cell { cell_of S.Stage.meaning self.new ≡ settled (result_err result) (cell_of S.Stage.meaning self.old) (stepped P.Point.kind (cell_of S.Stage.meaning self.old)) }
         ensures work { work.new ≡ settled (result_err result) work.old (zeros (length work.old)) }
         ensures side { side.new ≡ settled (result_err result) side.old (zeros (length side.old)) }
-        ensures untouched { is_ok result ≡ false → self.new ≡ self.old }
+        ensures untouched { OnErr result (self.new ≡ self.old) }
     {
         check_buffers(work, side)?;
         check_grid(grid.len())?;
@@ -54,58 +54,46 @@ impl<S: Stage, P: Point> Cell<S, P> {
         work: &mut [u8],
         side: &mut [u8],
     ) -> Result<Airing, StageFault>
-        requires roomy { (7680 ≤ length work.old) × (7680 ≤ length side.old) }
+        requires roomy { short work.old side.old ≡ false }
         requires whole { length grid.old ≡ 168 }
         ensures answer { result ≡ Ok (airs P.Point.kind (cell_of S.Stage.meaning self.old)).answer }
         ensures grid { grid.new ≡ (airs P.Point.kind (cell_of S.Stage.meaning self.old)).grid }
         ensures cell { cell_of S.Stage.meaning self.new ≡ with_pending (cell_of S.Stage.meaning self.old) (airs P.Point.kind (cell_of S.Stage.meaning self.old)).pending }
     {
-        let identity = self.end.identity;
-        let time = self.end.time;
+        let identity = self.end.known();
+        let time = self.end.time();
         if !time.is_open() {
             write_closed(grid);
             return Ok(Airing::Closed);
         }
-        let Some(course) = self.current() else {
+        let Some(course) = self.pending else {
             write_idle(grid, identity, time.subframe);
             return Ok(Airing::Idle);
         };
         self.encode(course, work, side)?;
         let from = part_start(course);
-        let to = from + PART_BITS;
-        write_data(grid, identity, time.subframe, &work[from..to]);
+        write_data(grid, identity, time.subframe, &work[from..from + PART_BITS]);
         self.pending = course.advanced();
         Ok(data(course))
     }
 
     // Puts the word of the round under way at the start of the work buffer.
     fn encode(&self, course: Course, work: &mut [u8], side: &mut [u8]) -> Result<usize, StageFault>
-        requires pending { Some course ≡ fitting (S.Stage.meaning self.now.chain) self.now.pending }
-        requires roomy { (7680 ≤ length work.old) × (7680 ≤ length side.old) }
-        ensures answer { result ≡ Ok (output (going_of course).grant) }
-        ensures word { take (output (going_of course).grant) work.new ≡ round_word (end_of self.now.end).identity (S.Stage.meaning self.now.chain) (sending_of self.now.block course) }
+        requires pending { self.now.pending ≡ Some course }
+        requires roomy { short work.old side.old ≡ false }
+        ensures answer { result ≡ Ok (output course.grant) }
+        ensures word { take (output course.grant) work.new ≡ round_word self.now.end.identity (S.Stage.meaning self.now.chain) (sending_of self.now.block course) }
     {
         let n = course.length();
         copy_front(work, &self.block, n);
-        self.chain.forward(n, self.setting(course), work, side)
-    }
-
-    // The setting of the round under way.
-    fn setting(&self, course: Course) -> Setting
-        ensures output { result.output ≡ output (going_of course).grant }
-        ensures seed { result.seed ≡ seed_at (end_of self.now.end).identity (going_of course).grant (going_of course).start (going_of course).gone }
-        ensures most { result.seed < 2 ^ 31 }
-    {
-        Setting {
-            output: course.output(),
-            seed: course.seed(self.end.identity),
-        }
+        let setting = round_setting(course, self.end.known());
+        self.chain.forward(n, setting, work, side)
     }
 }
 
 // What is said of the course's next open subframe.
 fn data(course: Course) -> Airing
-    ensures { result ≡ Data (part_due (going_of course)) (owed (going_of course).grant (going_of course).gone) }
+    ensures { result ≡ Data (part_due course) (owed course.grant course.gone) }
 {
     Airing::Data {
         part: course.part(),
@@ -115,8 +103,8 @@ fn data(course: Course) -> Airing
 
 // Where in the word the part begins that goes out in the course's next open subframe.
 fn part_start(course: Course) -> usize
-    ensures value { result ≡ part_bits * part_due (going_of course) }
-    ensures within { result + part_bits ≤ output (going_of course).grant }
+    ensures value { result ≡ part_bits * part_due course }
+    ensures within { result + part_bits ≤ output course.grant }
     ensures most { result ≤ part_bits * 9 }
 {
     PART_BITS * course.part() as usize

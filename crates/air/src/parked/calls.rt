@@ -1,6 +1,6 @@
-ghost use Rattle.std.specs.Prelude.{◌≡◌, ◌≤◌, false, is_ok};
+ghost use Rattle.std.specs.Prelude.{◌≡◌, OnErr};
 ghost use Rattle.calendar.specs.Times.{after};
-ghost use Rattle.air.specs.Ends.{end_of, fresh, with_identity, with_time};
+ghost use Rattle.air.specs.Ends.{InRange, fresh, with_identity, with_time};
 
 use crate::fault::ParkFault;
 use crate::parked::Parked;
@@ -10,7 +10,7 @@ use calendar::time::Time;
 impl Parked {
     // A new end has identity, frame and subframe 0.
     pub fn new() -> Parked
-        ensures { end_of result ≡ fresh }
+        ensures { result ≡ fresh }
     {
         Parked {
             identity: Identity::zero(),
@@ -23,20 +23,17 @@ impl Parked {
 
     // Sets the identity. Test 1.
     pub fn set_identity(&mut self, identity: u32) -> Result<(), ParkFault>
-        ensures answer { (result, end_of self.new) ≡ with_identity (end_of self.old) identity }
-        ensures untouched { is_ok result ≡ false → self.new ≡ self.old }
+        ensures answer { (result, self.new) ≡ with_identity self.old identity }
+        ensures untouched { OnErr result (self.new ≡ self.old) }
     {
-        let Some(known) = Identity::new(identity) else {
-            return Err(ParkFault::Identity);
-        };
-        self.identity = known;
+        self.identity = Identity::new(identity).ok_or(ParkFault::Identity)?;
         Ok(())
     }
 
     // Sets frame and subframe. Tests 2 and 3.
     pub fn set_time(&mut self, frame: u32, subframe: u32) -> Result<(), ParkFault>
-        ensures answer { (result, end_of self.new) ≡ with_time (end_of self.old) frame subframe }
-        ensures untouched { is_ok result ≡ false → self.new ≡ self.old }
+        ensures answer { (result, self.new) ≡ with_time self.old frame subframe }
+        ensures untouched { OnErr result (self.new ≡ self.old) }
     {
         if frame > 1023 {
             return Err(ParkFault::Frame);
@@ -52,20 +49,28 @@ impl Parked {
     }
 
     pub fn identity(&self) -> u16
-        ensures { result ≡ (end_of self.now).identity }
+        ensures { result ≡ self.now.identity }
     {
         self.identity.value()
     }
 
+    // The identity, as its own type.
+    pub(crate) fn known(&self) -> Identity
+        ensures { result ≡ self.now.identity }
+    {
+        self.identity
+    }
+
     pub fn time(&self) -> Time
-        ensures { result ≡ (end_of self.now).time }
+        ensures { result ≡ self.now.time }
     {
         self.time
     }
 
     // Another parked end with this one's identity and time.
     pub fn twin(&self) -> Parked
-        ensures { end_of result ≡ end_of self.now }
+        ensures same { result ≡ self.now }
+        ensures ranged { InRange self.now }
     {
         Parked {
             identity: self.identity,
@@ -75,7 +80,7 @@ impl Parked {
 
     // The clock goes one subframe on.
     pub(crate) fn step(&mut self)
-        ensures { end_of self.new ≡ record { identity = (end_of self.old).identity; time = after (end_of self.old).time } }
+        ensures { self.new ≡ record { identity = self.old.identity; time = after self.old.time } }
     {
         self.time = self.time.step();
     }

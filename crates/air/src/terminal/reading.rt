@@ -1,21 +1,23 @@
-ghost use Rattle.std.specs.Prelude.{◌≡◌, ◌+◌, ◌≤◌, true, false, ◌++◌, length, take, is_some, IfSome};
+ghost use Rattle.std.specs.Prelude.{◌≡◌, ◌+◌, ◌≤◌, true, false, ◌++◌, length, take, IfOk, Some};
 ghost use Rattle.std.specs.Option.{option_map};
+ghost use Rattle.std.specs.Result.{result_ok};
+ghost use Rattle.stage.specs.Refusals.{short};
 ghost use Rattle.calendar.specs.Grants.{output};
-ghost use Rattle.calendar.specs.Courses.{going_of};
-ghost use Rattle.calendar.specs.Identities.{number_of};
-ghost use Rattle.calendar.specs.Rounds.{first_copy, last_part, seed_at};
+ghost use Rattle.calendar.specs.Rounds.{seed_at};
 ghost use Rattle.calendar.specs.Times.{closed};
-ghost use Rattle.air.specs.Terminals.{with_awaited, block_of, short_block, reading};
-ghost use Rattle.air.specs.TerminalViews.{awaiting_of, covered, terminal_of, slot_of, filled, takes_in};
+ghost use Rattle.air.specs.declared.terminal.slot.Slot.TheVariants.{FirstCopy};
+ghost use Rattle.air.specs.Terminals.{with_awaited, block_of, short_block};
+ghost use Rattle.air.specs.TerminalViews.{terminal_of, slot_of, takes_in};
 
 use crate::answers::Outcome;
+use crate::asking::round_setting;
 use crate::buffers::copy_front;
 use crate::terminal::Terminal;
 use crate::terminal::slot::Slot;
 use calendar::course::Course;
 use calendar::grant::PART_BITS;
 use point::Point;
-use stage::setting::Setting;
+use stage::fault::StageFault;
 use stage::stages::Stage;
 
 // Puts the bits of a part into the table.
@@ -30,27 +32,23 @@ impl<S: Stage, P: Point> Terminal<S, P> {
     // Takes in the subframe that the clock is at, with its bits where they are due.
     pub(crate) fn take_in(
         &mut self,
-        awaited: Option<Course>,
         slot: Slot,
         bits: &[u8],
         work: &mut [u8],
         side: &mut [u8],
         block: &mut [u8],
     ) -> Outcome
-        requires awaited { option_map (awaiting_of self.old.word) awaited ≡ (terminal_of S.Stage.meaning self.old).awaited }
-        requires fits { IfSome awaited (λ course. covered (S.Stage.meaning self.old.chain) (going_of course).grant ≡ true) }
-        requires slot { slot ≡ slot_of (closed self.old.end.time) (option_map going_of awaited) }
+        requires slot { slot ≡ slot_of (closed self.old.end.time) self.old.awaited }
         requires bits { length bits.now ≡ 320 }
-        requires roomy { (7680 ≤ length work.old) × (7680 ≤ length side.old) }
+        requires roomy { short work.old side.old ≡ false }
         requires room { short_block (terminal_of S.Stage.meaning self.old).awaited block.old ≡ false }
         ensures outcome { result ≡ (takes_in (terminal_of S.Stage.meaning self.old) bits.now block.old).outcome }
         ensures block { block.new ≡ (takes_in (terminal_of S.Stage.meaning self.old) bits.now block.old).buffer }
         ensures terminal { terminal_of S.Stage.meaning self.new ≡ with_awaited (terminal_of S.Stage.meaning self.old) (takes_in (terminal_of S.Stage.meaning self.old) bits.now block.old).awaited }
     {
-        match (awaited, slot) {
+        match (self.awaited, slot) {
             (_, Slot::Closed) => Outcome::Closed,
-            (None, _) => Outcome::Idle,
-            (_, Slot::Idle) => Outcome::Idle,
+            (None, _) | (_, Slot::Idle) => Outcome::Idle,
             (Some(course), Slot::FirstCopy) => self.read_part(course, bits, work, side, block),
             (Some(course), Slot::Repeat) => {
                 self.awaited = course.advanced();
@@ -68,14 +66,14 @@ impl<S: Stage, P: Point> Terminal<S, P> {
         side: &mut [u8],
         block: &mut [u8],
     ) -> Outcome
-        requires fits { covered (S.Stage.meaning self.old.chain) (going_of course).grant ≡ true }
-        requires first { first_copy (going_of course).grant (going_of course).gone ≡ true }
+        requires awaited { self.old.awaited ≡ Some course }
+        requires slot { slot_of (closed self.old.end.time) self.old.awaited ≡ FirstCopy }
         requires bits { length bits.now ≡ 320 }
-        requires roomy { (7680 ≤ length work.old) × (7680 ≤ length side.old) }
-        requires room { (going_of course).grant.length ≤ length block.old }
-        ensures outcome { result ≡ (reading (number_of self.old.end.identity) (S.Stage.meaning self.old.chain) (awaiting_of self.old.word course) bits.now block.old true (last_part (going_of course).grant (going_of course).gone)).outcome }
-        ensures block { block.new ≡ (reading (number_of self.old.end.identity) (S.Stage.meaning self.old.chain) (awaiting_of self.old.word course) bits.now block.old true (last_part (going_of course).grant (going_of course).gone)).buffer }
-        ensures terminal { terminal_of S.Stage.meaning self.new ≡ with_awaited (terminal_of S.Stage.meaning self.old) (reading (number_of self.old.end.identity) (S.Stage.meaning self.old.chain) (awaiting_of self.old.word course) bits.now block.old true (last_part (going_of course).grant (going_of course).gone)).awaited }
+        requires roomy { short work.old side.old ≡ false }
+        requires room { course.grant.length ≤ length block.old }
+        ensures outcome { result ≡ (takes_in (terminal_of S.Stage.meaning self.old) bits.now block.old).outcome }
+        ensures block { block.new ≡ (takes_in (terminal_of S.Stage.meaning self.old) bits.now block.old).buffer }
+        ensures terminal { terminal_of S.Stage.meaning self.new ≡ with_awaited (terminal_of S.Stage.meaning self.old) (takes_in (terminal_of S.Stage.meaning self.old) bits.now block.old).awaited }
     {
         let part = course.part();
         put_part(&mut self.word, PART_BITS * part as usize, bits);
@@ -83,33 +81,28 @@ impl<S: Stage, P: Point> Terminal<S, P> {
             self.awaited = course.advanced();
             return Outcome::Part(part);
         }
-        if self.decode(course, work, side, block) {
-            self.awaited = course.advanced();
-            Outcome::Block
-        } else {
-            self.awaited = None;
-            Outcome::Spoiled
+        match self.decode(course, work, side) {
+            Ok(n) => {
+                copy_front(block, work, n);
+                self.awaited = course.advanced();
+                Outcome::Block
+            }
+            Err(_) => {
+                self.awaited = None;
+                Outcome::Spoiled
+            }
         }
     }
 
-    // Puts the block of the whole word at the start of the block buffer, if there is one.
-    fn decode(&self, course: Course, work: &mut [u8], side: &mut [u8], block: &mut [u8]) -> bool
-        requires fits { covered (S.Stage.meaning self.now.chain) (going_of course).grant ≡ true }
-        requires roomy { (7680 ≤ length work.old) × (7680 ≤ length side.old) }
-        requires room { (going_of course).grant.length ≤ length block.old }
-        ensures found { result ≡ is_some (block_of (S.Stage.meaning self.now.chain) (going_of course).grant.length (output (going_of course).grant) (seed_at (number_of self.now.end.identity) (going_of course).grant (going_of course).start (going_of course).gone) (take (output (going_of course).grant) self.now.word)) }
-        ensures block { block.new ≡ filled (block_of (S.Stage.meaning self.now.chain) (going_of course).grant.length (output (going_of course).grant) (seed_at (number_of self.now.end.identity) (going_of course).grant (going_of course).start (going_of course).gone) (take (output (going_of course).grant) self.now.word)) (going_of course).grant.length block.old }
+    // Puts the block of the whole word at the start of the work buffer, if there is one.
+    fn decode(&self, course: Course, work: &mut [u8], side: &mut [u8]) -> Result<usize, StageFault>
+        requires awaited { self.now.awaited ≡ Some course }
+        requires roomy { short work.old side.old ≡ false }
+        ensures block { option_map (λ n. take n work.new) (result_ok result) ≡ block_of (S.Stage.meaning self.now.chain) course.grant.length (output course.grant) (seed_at self.now.end.identity course.grant course.start course.gone) (take (output course.grant) self.now.word) }
+        ensures length { IfOk result (λ n. n ≡ course.grant.length) }
     {
-        let n = course.length();
-        let output = course.output();
-        let seed = course.seed(self.end.identity);
-        copy_front(work, &self.word, output);
-        match self.chain.back(n, Setting { output, seed }, work, side) {
-            Ok(_) => {
-                copy_front(block, work, n);
-                true
-            }
-            Err(_) => false,
-        }
+        let setting = round_setting(course, self.end.known());
+        copy_front(work, &self.word, course.output());
+        self.chain.back(course.length(), setting, work, side)
     }
 }

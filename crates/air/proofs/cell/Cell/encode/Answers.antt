@@ -1,13 +1,27 @@
-use Rattle.std.proofs.Common.{arith}
-use Rattle.air.proofs.Encoding.{encoded}
+use Rattle.std.proofs.Common.{◌≡◌, true, length, take, refl, ap, ◌∙◌}
+use Rattle.std.proofs.lemmas.List.{length-take-le}
+use Rattle.stage.specs.Bits.{binary}
+use Rattle.stage.proofs.Past.{same-room}
+use Rattle.air.proofs.Coding.{sized, coded}
 use Rattle.air.proofs.cell.Cell.encode.Goals as goal
 
 pub returns : goal.returns
 returns g c =
     let self = c.args.self.now in
-    let s = c.setting.ensures in
-    let p = encoded (g.met.S.Stage.lawful self.chain) _ c.args.course self.pending self.block
-    c.copy_front.new.to c.args.side.now c.forward.new.work c.forward.new.side c.forward.result
-    c.length-n.result c.setting.result c.length-n.ensures.allowed c.requires.pending self.bits c.length-n.ensures.value s.output s.seed s.most
-    c.copy_front.ensures.long (omega (arith, c.copy_front.auto.to, c.requires.roomy.0)) c.requires.roomy.1 c.copy_front.ensures.front c.forward.ensures in
-    record { answer = p.0; word = p.1 }
+    let n = c.length-n in
+    let s = c.round_setting-setting in
+    let size = sized (g.S.Stage.meaning self.chain) c.args.course.grant (self.fitting c.args.course c.requires.pending)
+    n.result s.result.output n.ensures.value s.ensures.output in
+    let front = c.copy_front.ensures.front in
+    let long = ap length front ∙ length-take-le n.result self.block c.copy_front.ensures.long in
+    let bits : binary (take n.result c.copy_front.new.to) ≡ true = let k = self.bits c.args.course c.requires.pending in let a = n.ensures.value in cc in
+    let room = same-room c.args.work.now c.args.side.now c.copy_front.new.to c.args.side.now c.copy_front.auto.to refl c.requires.roomy in
+    let p =
+    coded (g.met.S.Stage.lawful self.chain) n.result s.result size s.ensures.range c.copy_front.new.to c.args.side.now room
+    c.forward.new.work c.forward.new.side c.forward.result (long, bits) c.forward.ensures in
+    let q = p.0 in
+    let w = p.1 in
+    let a = n.ensures.value in
+    let b = s.ensures.output in
+    let d = s.ensures.seed in
+    record { answer = cc; word = cc }

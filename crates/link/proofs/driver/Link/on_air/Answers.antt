@@ -11,11 +11,11 @@ pub returns : goal.returns
 returns g c =
     let m = g.S.Stage.meaning c.args.chain in
     let e = end_of c.args.parked in
-    let alike = ap₂ (λ u t. record { cell = u; terminal = t }) c.cell.ensures (c.terminal.ensures ∙ ap (λ x. tuned x m) c.twin-twin.ensures) in
+    let alike = ap₂ (λ u t. record { cell = u; terminal = t }) c.cell.ensures (c.terminal.ensures ∙ ap (λ x. tuned x m) c.twin-twin.ensures.same) in
     record {
       alike = alike;
       block = refl;
       home = subst (λ (l : LinkState). BlocksComeHome g.P.Point.kind l (opened e m)) (sym alike)
           (blocks_come_home g.P.Point.kind g.met.P.Point.lawful m (g.met.S.Stage.lawful c.args.chain) e
-          c.args.parked.known c.args.parked.timed);
+          c.twin-twin.ensures.ranged.known c.twin-twin.ensures.ranged.timed);
     }
