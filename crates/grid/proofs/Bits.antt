@@ -1,31 +1,19 @@
 -- Bits as points and points as bits, pair by pair.
-use Rattle.std.proofs.Common.{◌≡◌, ℕ, zero, suc, ◌+◌, ◌*◌, ◌/◌, ◌<◌, ◌≤◌, Bool, true, false, List, [], ◌∷◌, length, get_or, drop, Some, None, Option, sym, refl, ap, ◌∙◌, subst, arith}
-use Rattle.std.proofs.lemmas.List.{drop_more, length-drop}
+use Rattle.std.proofs.Common.{◌≡◌, ℕ, zero, suc, ◌+◌, ◌*◌, ◌/◌, ◌<◌, ◌≤◌, Bool, true, false, List, [], ◌∷◌, length, get_or, map, Some, None, Option, sym, refl, ap, ◌∙◌, subst, arith}
+use Rattle.std.specs.Simd.{first_chunks}
 use Rattle.point.specs.Kinds.{Kind, LawfulKind}
 use Rattle.grid.specs.Pairs.{is_one, bit, points, joined, bits_of}
 
 module _ {X : Type 0} (K : Kind X) where
-  two_more : (bs : List ℕ) (i : ℕ) → i < length bs / 2 → drop (2 * i) bs ≡ get_or bs (2 * i) 0 ∷ get_or bs (2 * i + 1) 0 ∷ drop (2 * (i + 1)) bs
-  two_more bs i h =
-      drop_more bs (2 * i) 0 (omega arith)
-      ∙ ap (λ ys. get_or bs (2 * i) 0 ∷ ys) (drop_more bs (2 * i + 1) 0 (omega arith))
-      ∙ ap (λ n. get_or bs (2 * i) 0 ∷ get_or bs (2 * i + 1) 0 ∷ drop n bs) (omega arith)
-
-  -- the point of the next pair comes next
-  pub points_more : (bs : List ℕ) (i : ℕ) (x : X) → i < length bs / 2 → x ≡ K.point (is_one (get_or bs (2 * i) 0)) (is_one (get_or bs (2 * i + 1) 0))
-      → points K (drop (2 * i) bs) ≡ x ∷ points K (drop (2 * (i + 1)) bs)
+  -- the points of the pairs, one for each
+  pub points-chunks : (bs : List ℕ) (n : ℕ) → n ≡ length bs / 2 → map (λ c. K.point (is_one (get_or c 0 0)) (is_one (get_or c 1 0))) (first_chunks 2 n bs) ≡ points K bs
   unfolding points
-  points_more bs i x h e = ap (points K) (two_more bs i h) ∙ ap (λ y. y ∷ points K (drop (2 * (i + 1)) bs)) (sym e)
-
-  none_left : (bs : List ℕ) → length bs < 2 → points K bs ≡ []
-  unfolding points
-  none_left [] h = refl
-  none_left (a ∷ []) h = refl
-  none_left (a ∷ b ∷ bs) h = absurd (omega arith)
-
-  -- no pair is left
-  pub points_end : (bs : List ℕ) (i : ℕ) → length bs / 2 ≤ i → points K (drop (2 * i) bs) ≡ []
-  points_end bs i h = none_left (drop (2 * i) bs) (let e = length-drop (2 * i) bs in omega arith)
+  points-chunks [] zero h = refl
+  points-chunks [] (suc n) h = absurd (omega arith)
+  points-chunks (a ∷ []) zero h = refl
+  points-chunks (a ∷ []) (suc n) h = absurd (omega arith)
+  points-chunks (a ∷ b ∷ bs) zero h = absurd (omega arith)
+  points-chunks (a ∷ b ∷ bs) (suc n) h = ap (λ xs. K.point (is_one a) (is_one b) ∷ xs) (points-chunks bs n (omega arith))
 
   pub length-points : (bs : List ℕ) → length (points K bs) ≡ length bs / 2
   unfolding points

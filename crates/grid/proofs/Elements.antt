@@ -1,5 +1,6 @@
 -- The reference and the data elements of a grid of 168 points, at every identity.
-use Rattle.std.proofs.Common.{◌≡◌, ℕ, zero, suc, ◌+◌, ◌/◌, ◌%◌, ◌<◌, Bool, true, false, cond, ◌&&◌, ◌||◌, eqb, sym, refl, subst₂, arith}
+use Rattle.std.proofs.Common.{◌≡◌, ℕ, zero, suc, ◌+◌, ◌/◌, ◌%◌, ◌<◌, Bool, true, false, cond, ◌&&◌, ◌||◌, eqb, sym, refl, ap₂, subst₂, arith}
+use mathlib.Core.Path.{fun_ext}
 use Rattle.grid.specs.declared.purpose.Purpose.{Purpose}
 use Rattle.grid.specs.declared.purpose.Purpose.TheVariants.{Reference, Data}
 use Rattle.grid.specs.Walk.{count}
@@ -9,6 +10,14 @@ use Rattle.grid.specs.Purposes.{comb, same, among}
 abbrev at_starts : Purpose → ℕ → ℕ → ℕ → Bool
 at_starts what a b p =
     same what (cond (((eqb (p / 12) 5 || eqb (p / 12) 12) && comb a (p % 12)) || ((eqb (p / 12) 6 || eqb (p / 12) 13) && comb b (p % 12))) Reference Data)
+
+-- the remainder of an identity stands for it
+pub among_remainder : (what : Purpose) (n : ℕ) → among what (n % 6) ≡ among what n
+unfolding among
+among_remainder what n =
+    let a : (0 + n % 6) % 6 ≡ (0 + n) % 6 = omega arith in
+    let b : (3 + n % 6) % 6 ≡ (3 + n) % 6 = omega arith in
+    fun_ext (λ place. ap₂ (λ s t. at_starts what s t place) a b)
 
 -- what holds of the six pairs of starts holds at every identity
 six : (P : ℕ → ℕ → Type 0) → P 0 3 → P 1 4 → P 2 5 → P 3 0 → P 4 1 → P 5 2 → (n : ℕ) → P ((0 + n) % 6) ((3 + n) % 6)

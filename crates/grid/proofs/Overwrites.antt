@@ -17,16 +17,13 @@ module _ {X : Type 0} where
   unfolding overwritten
   step y t ys ts = refl
 
-  full : (n : ℕ) (ys ts : List X) → length ys ≤ n → over_from n ys ts ≡ ys
+  -- no room is left
+  pub over_all : (n : ℕ) (ys ts : List X) → length ys ≤ n → over_from n ys ts ≡ ys
   unfolding overwritten
-  full n ys ts h = ap (λ zs. take n ys ++ overwritten zs ts) (drop_all n ys h) ∙ append-nil (take n ys) ∙ take_all n ys h
+  over_all n ys ts h = ap (λ zs. take n ys ++ overwritten zs ts) (drop_all n ys h) ∙ append-nil (take n ys) ∙ take_all n ys h
 
   pub over_done : (n : ℕ) (ys : List X) → over_from n ys [] ≡ ys
   over_done n ys = ap (λ zs. take n ys ++ zs) (none (drop n ys)) ∙ take-append-drop n ys
-
-  -- no room is left
-  pub over_full : (n : ℕ) (ys ts us : List X) → length ys ≤ n → over_from n ys ts ≡ over_from n ys us
-  over_full n ys ts us h = full n ys ts h ∙ sym (full n ys us h)
 
   -- the next thing is written
   pub over_more : (n : ℕ) (t : X) (ys ts : List X) → n < length ys → over_from n ys (t ∷ ts) ≡ over_from (n + 1) (set ys n t) ts
@@ -36,17 +33,6 @@ module _ {X : Type 0} where
       ∙ sym (append_assoc (take n ys) (t ∷ []) _)
       ∙ ap (λ zs. zs ++ overwritten (drop (n + 1) ys) ts) (sym (take_more_set ys n t h))
       ∙ ap (λ zs. take (n + 1) (set ys n t) ++ overwritten zs ts) (sym (drop-set-lt (n + 1) ys n t (omega arith)))
-
-  -- The same as turns of a loop that comes to zs.
-
-  pub fetch_more : (n : ℕ) (t : X) (ys us ts zs : List X) → n < length ys → us ≡ t ∷ ts → over_from n ys us ≡ zs → over_from (n + 1) (set ys n t) ts ≡ zs
-  fetch_more n t ys us ts zs h e r = sym (over_more n t ys ts h) ∙ ap (over_from n ys) (sym e) ∙ r
-
-  pub fetch_end : (n : ℕ) (ys ts zs : List X) → ts ≡ [] → over_from n ys ts ≡ zs → ys ≡ zs
-  fetch_end n ys ts zs e r = sym (ap (over_from n ys) e ∙ over_done n ys) ∙ r
-
-  pub fetch_full : (n : ℕ) (ys ts zs : List X) → length ys ≤ n → over_from n ys ts ≡ zs → ys ≡ zs
-  fetch_full n ys ts zs h r = sym (full n ys ts h) ∙ r
 
   -- where there is room for all
   pub overwritten_front : (ys ts : List X) → length ts ≤ length ys → overwritten ys ts ≡ ts ++ drop (length ts) ys
