@@ -13,7 +13,7 @@ use Rattle.stage.specs.Paired.{word_bits}
 use Rattle.stage.proofs.PairCalls.{ok_err}
 use Rattle.stage.proofs.Past.{back_undone, back_refused}
 use Rattle.calendar.specs.declared.course.Course.{Course}
-use Rattle.calendar.specs.Grants.{output}
+use Rattle.calendar.specs.Grants.{Allowed, output}
 use Rattle.calendar.proofs.Counting.{count_some}
 use Rattle.air.specs.Terminals.{block_of}
 use Rattle.air.specs.TerminalViews.{word_size, mark, covered}
@@ -65,7 +65,7 @@ module _ (m : Meaning) (law : Lawful m) (n e seed : ℕ) (size : m.size n e ≡ 
       go false h = no_bits h
 
 -- the same of a covered grant, with the numbers that the code works with
-module _ (m : Meaning) (law : Lawful m) (c : Course) (fits : covered m c.grant ≡ true) (n e seed seed' : ℕ) (n_is : n ≡ c.grant.length)
+module _ (m : Meaning) (law : Lawful m) (c : Course) (fits : covered m c.grant ≡ true) (ok : Allowed c.grant) (n e seed seed' : ℕ) (n_is : n ≡ c.grant.length)
     (e_is : e ≡ output c.grant) (seed_is : seed ≡ seed') (most : e ≤ 3200) (seeded : seed < 2 ^ 31)
     (table work₀ work side work' side' : List ℕ) (long : length table ≡ 3200)
     (roomy : 7680 ≤ length work) (spare : 7680 ≤ length side) (copied : work ≡ take e table ++ drop e work₀) where
@@ -84,7 +84,7 @@ module _ (m : Meaning) (law : Lawful m) (c : Course) (fits : covered m c.grant �
   covers = let k = both.1 in cc
 
   some : 0 < e
-  some = let k = count_some c.grant c.counted in omega arith
+  some = let k = count_some c.grant ok.counted in omega arith
 
   same_block : block_of m n e seed (take e table) ≡ the_block
   same_block = cc

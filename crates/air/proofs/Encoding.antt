@@ -14,7 +14,7 @@ use Rattle.stage.specs.Paired.{word_bits}
 use Rattle.stage.proofs.Past.{forward_accepted}
 use Rattle.calendar.specs.declared.course.Course.{Course}
 use Rattle.calendar.specs.Courses.{going_of}
-use Rattle.calendar.specs.Grants.{output}
+use Rattle.calendar.specs.Grants.{Allowed, output}
 use Rattle.calendar.specs.Rounds.{seed_at}
 use Rattle.air.specs.Cells.{round_word}
 use Rattle.air.specs.CellViews.{fitting, sending_of}
@@ -38,17 +38,17 @@ module _ {m : Meaning} (law : Lawful m) (n : ℕ) (s : Setting) (block work side
 
 -- the word of the round under way stands at the start of the work buffer
 pub encoded : {m : Meaning} (law : Lawful m) (identity : ℕ) (c : Course) (pending : Option Course) (table work side work' side' : List ℕ)
-    (r : Result ℕ StageFault) (n : ℕ) (s : Setting) → Some c ≡ fitting m pending → kept_bits table pending ≡ true
+    (r : Result ℕ StageFault) (n : ℕ) (s : Setting) → Allowed c.grant → Some c ≡ fitting m pending → kept_bits table pending ≡ true
     → n ≡ (going_of c).grant.length → s.output ≡ output (going_of c).grant
     → s.seed ≡ seed_at identity (going_of c).grant (going_of c).start (going_of c).gone → s.seed < 2 ^ 31
     → n ≤ length table → 7680 ≤ length work → 7680 ≤ length side → take n work ≡ take n table
     → Forward m n s work side work' side' r
     → (r ≡ Ok (output (going_of c).grant)) × (take (output (going_of c).grant) work' ≡ round_word identity m (sending_of table c))
-encoded {m} law identity c pending table work side work' side' r n s is kept n_is e_is seed_is low long roomy spare front forward =
+encoded {m} law identity c pending table work side work' side' r n s ok is kept n_is e_is seed_is low long roomy spare front forward =
     let f = fitting_is m pending c is in
     let bits = ap (λ (x : ℕ). binary (take x table)) n_is ∙ sym (ap (kept_bits table) f.0) ∙ kept in
     let size = ap₂ m.size n_is e_is ∙ eqb-true (m.size c.grant.length (output c.grant)) (output c.grant) f.1 ∙ sym e_is in
-    let range = ap (λ (x : ℕ). ranged (record { output = x; seed = s.seed })) e_is ∙ in_range c.grant s.seed c.counted low in
+    let range = ap (λ (x : ℕ). ranged (record { output = x; seed = s.seed })) e_is ∙ in_range c.grant s.seed ok.counted low in
     let p = coded law n s (take n table) work side work' side' r size range (length-take-le n table long, bits) roomy spare front forward in (
       p.0 ∙ ap Ok e_is,
       sym (ap (λ (x : ℕ). take x work') e_is) ∙ p.1

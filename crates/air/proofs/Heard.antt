@@ -171,7 +171,7 @@ module _ (shut : Bool) (slot : Slot) (o : Option Course) (is : slot ≡ slot_of 
           let first = slot_first shut (going_of c) (at_slot c some FirstCopy e) in
           hearing_open identity m shut a (awaiting_of word c) bits buffer true first.0 awaited_now first.1
 
-      pub repeat_comes : slot ≡ Repeat → covered m c.grant ≡ true → (r : Option Course) → option_map going_of r ≡ one_on (going_of c)
+      pub repeat_comes : slot ≡ Repeat → covered m c.grant ≡ true → (r : Option Course) → r ≡ one_on (going_of c)
           → Comes heard outcomes.Repeat buffer (covered_by m word r)
       repeat_comes e fits r on =
           let again = slot_repeat shut (going_of c) (at_slot c some Repeat e) in

@@ -80,7 +80,7 @@ module _ (m : Meaning) (busy : Bool) (g : Grant) (work side : List ℕ) where
 
       module _ (d : None ≡ first_fault free) (e : ℕ) (e_is : e ≡ output g) (k : ℕ) (k_is : k ≡ word_length m g.length (setting e)) where
         ranges : ranged (setting (output g)) ≡ true
-        ranges = in_range g 0 (allowed g (sym b)).1 (omega arith)
+        ranges = in_range g 0 (allowed g (sym b)).counted (omega arith)
 
         sized : k ≡ size
         unfolding size

@@ -7,9 +7,9 @@ use Rattle.calendar.specs.declared.course.Course.{Course}
 use Rattle.calendar.specs.declared.grant.Grant.{Grant}
 use Rattle.calendar.specs.declared.time.Time.{Time}
 use Rattle.calendar.specs.Grants.{output}
-use Rattle.calendar.specs.Rounds.{copies, owed, part_at, first_copy, last_part, seed_at}
+use Rattle.calendar.specs.Rounds.{owed, part_at, first_copy, last_part, seed_at}
 use Rattle.calendar.specs.Courses.{Going, going_of, begun, one_on}
-use Rattle.calendar.proofs.Counting.{Few, copies_few, reads_none, reads_now, reads_next, reads_same}
+use Rattle.calendar.proofs.Counting.{reads_none, reads_now, reads_next, reads_same}
 use Rattle.air.specs.declared.answers.Outcome.{Outcome}
 use Rattle.air.specs.declared.answers.Outcome.TheVariants.{Part, Block, Spoiled}
 use Rattle.air.specs.Terminals.{Awaiting, Hearing, block_of, one_heard, finished, reading}
@@ -32,10 +32,10 @@ module _ (m : Meaning) (table : List ℕ) where
   covered-begun c g t e h =
       ap seen e
       ∙ seen_is (begun g t) [] h
-      (ap (λ (k : ℕ). take (320 * k) table) (reads_none g (rw (ap (λ (x : Going). x.grant) e) at (copies_few c.grant c.repeated))))
+      (ap (λ (k : ℕ). take (320 * k) table) (reads_none g))
 
   -- what is left of a covered grant is covered
-  pub covered_next : (c : Course) (word read : List ℕ) (r : Option Course) → covered m c.grant ≡ true → option_map going_of r ≡ one_on (going_of c)
+  pub covered_next : (c : Course) (word read : List ℕ) (r : Option Course) → covered m c.grant ≡ true → r ≡ one_on (going_of c)
       → take (320 * parts_read c.grant (c.gone + 1)) table ≡ read → covered_by m table r ≡ one_heard (awaiting_of word c) read
   covered_next c word read None h e k = ap (option_map (λ (g : Going). record { going = g; read = read })) e
   covered_next c word read (Some q) h e k = go (eqb (owed c.grant c.gone) 0) e
@@ -49,13 +49,10 @@ module _ (m : Meaning) (table : List ℕ) where
       go false l = let i : going_of q ≡ s = cc in ap seen i ∙ seen_is s read h k
 
 module _ (c : Course) where
-  few : Few (copies c.grant)
-  few = copies_few c.grant c.repeated
-
   module _ (first : first_copy c.grant c.gone ≡ true) where
     parts_next : parts_read c.grant (c.gone + 1) ≡ part_at c.grant c.gone + 1
     parts_next =
-        ap (parts_read c.grant) (add-one c.gone) ∙ reads_next c.grant c.gone few first ∙ sym (add-one (part_at c.grant c.gone))
+        ap (parts_read c.grant) (add-one c.gone) ∙ reads_next c.grant c.gone first ∙ sym (add-one (part_at c.grant c.gone))
 
     -- the word with the part
     read_next : (part : ℕ) → part ≡ part_at c.grant c.gone → (table word bits : List ℕ)
@@ -64,7 +61,7 @@ module _ (c : Course) where
     read_next part e table word bits h =
         let n : 320 * parts_read c.grant (c.gone + 1) ≡ 320 * part + 320 = omega (arith, parts_next, e) in
         ap (λ (k : ℕ). take k table) n ∙ h
-        ∙ ap (λ (k : ℕ). take (320 * k) word ++ bits) (e ∙ sym (reads_now c.grant c.gone few first))
+        ∙ ap (λ (k : ℕ). take (320 * k) word ++ bits) (e ∙ sym (reads_now c.grant c.gone first))
 
     -- the last part makes the word whole
     whole_word : last_part c.grant c.gone ≡ true → (table : List ℕ)
@@ -76,7 +73,7 @@ module _ (c : Course) where
   pub read_same : first_copy c.grant c.gone ≡ false → (word : List ℕ)
       → take (320 * parts_read c.grant (c.gone + 1)) word ≡ (awaiting_of word c).read
   read_same repeat word =
-      ap (λ (k : ℕ). take (320 * k) word) (ap (parts_read c.grant) (add-one c.gone) ∙ reads_same c.grant c.gone few repeat)
+      ap (λ (k : ℕ). take (320 * k) word) (ap (parts_read c.grant) (add-one c.gone) ∙ reads_same c.grant c.gone repeat)
 
 -- what a hearing comes to: the outcome, the block buffer, and what is then awaited
 pub record Comes (h : Hearing) (outcome : Outcome) (buffer : List ℕ) (left : Option Awaiting) : Type 0 where
@@ -113,7 +110,7 @@ module _ (m : Meaning) (identity : ℕ) (c : Course) (fits : covered m c.grant �
   read : take (320 * parts_read c.grant (c.gone + 1)) table ≡ all
   read = read_next c first part part_is table word bits put
 
-  left : (r : Option Course) → option_map going_of r ≡ one_on (going_of c) → covered_by m table r ≡ one_heard (awaiting_of word c) all
+  left : (r : Option Course) → r ≡ one_on (going_of c) → covered_by m table r ≡ one_heard (awaiting_of word c) all
   left r e = covered_next m table c word all r fits e read
 
   lasting : (v : Bool) (outcome : Outcome) (filling : List ℕ) (rest : Option Awaiting) → the_last ≡ v → Comes (at v) outcome filling rest
@@ -124,7 +121,7 @@ module _ (m : Meaning) (identity : ℕ) (c : Course) (fits : covered m c.grant �
     awaited_is = h.awaited_is ∙ sym (ap (λ (l : Bool). (at l).awaited) e);
   }
 
-  pub part_comes : the_last ≡ false → (r : Option Course) → option_map going_of r ≡ one_on (going_of c)
+  pub part_comes : the_last ≡ false → (r : Option Course) → r ≡ one_on (going_of c)
       → Comes (at the_last) (Part part) buffer (covered_by m table r)
   part_comes e r on =
       lasting false (Part part) buffer (covered_by m table r) e
@@ -134,7 +131,7 @@ module _ (m : Meaning) (identity : ℕ) (c : Course) (fits : covered m c.grant �
     whole : take (output c.grant) table ≡ all
     whole = whole_word c first e table ∙ read
 
-    pub block_comes : true ≡ is_some (found (take (output c.grant) table)) → (r : Option Course) → option_map going_of r ≡ one_on (going_of c)
+    pub block_comes : true ≡ is_some (found (take (output c.grant) table)) → (r : Option Course) → r ≡ one_on (going_of c)
         → Comes (at the_last) Block (filled (found (take (output c.grant) table)) c.grant.length buffer) (covered_by m table r)
     block_comes is r on =
         let ends = ends_block (awaiting_of word c) all buffer (found all) (is ∙ ap (λ (w : List ℕ). is_some (found w)) whole) in

@@ -58,7 +58,7 @@ same_grant x y e = go (eqb (owed x.grant x.gone) 0) e
     go false k = let l : y ≡ z = cc in ap (λ (g : Going). g.grant) l
 
 -- the table is left as it is
-pub kept_next : (table : List ℕ) (c : Course) (r : Option Course) → option_map going_of r ≡ one_on (going_of c)
+pub kept_next : (table : List ℕ) (c : Course) (r : Option Course) → r ≡ one_on (going_of c)
     → kept_bits table (Some c) ≡ true → kept_bits table r ≡ true
 kept_next table c None e h = refl
 kept_next table c (Some q) e h =
@@ -66,7 +66,7 @@ kept_next table c (Some q) e h =
 
 -- what is left of a grant that fits the chain fits it
 pub fitting_next : (m : Meaning) (table : List ℕ) (c : Course) (r : Option Course) → fits m (going_of c).grant ≡ true
-    → option_map going_of r ≡ one_on (going_of c) → option_map (sending_of table) (fitting m r) ≡ one_sent (sending_of table c)
+    → r ≡ one_on (going_of c) → option_map (sending_of table) (fitting m r) ≡ one_sent (sending_of table c)
 fitting_next m table c None h e = ap (option_map (λ g. record { going = g; block = take (going_of c).grant.length table })) e
 fitting_next m table c (Some q) h e =
     let same = same_grant (going_of c) (going_of q) e in

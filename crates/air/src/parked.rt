@@ -8,6 +8,7 @@ use calendar::time::Time;
 pub struct Parked {
     pub(crate) identity: Identity,
     pub(crate) time: Time,
+    ghost known: { identity ≤ 503 },
     ghost framed: { time.frame ≤ 1023 },
     ghost timed: { time.subframe ≤ 9 },
 }

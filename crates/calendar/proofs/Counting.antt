@@ -1,7 +1,7 @@
 -- The subframes of a grant, counted. Assumes nothing.
-use Rattle.std.proofs.Common.{◌≡◌, ℕ, suc, ◌+◌, ◌-◌, ◌*◌, ◌/◌, ◌%◌, ◌<◌, ◌≤◌, min, Bool, true, false, ◌&&◌, ◌||◌, eqb, ltb, leb, ◌⊎◌, List, [], ◌∷◌, sym, refl, ap, ◌∙◌, subst, inl, inr, ⊎_elim, mod-eq_of_lt, mul-pos, arith}
-use native.Mathlib.Nat.{div-eq_of_lt}
-use Rattle.std.proofs.lemmas.Nat.{mod_below, div_below}
+use Rattle.std.proofs.Common.{◌≡◌, ℕ, suc, ◌+◌, ◌-◌, ◌*◌, ◌/◌, ◌%◌, ◌<◌, ◌≤◌, min, Bool, true, false, ◌&&◌, eqb, ltb, leb, ◌⊎◌, List, [], ◌∷◌, sym, refl, ap, ◌∙◌, inl, inr, ⊎_elim, mod-eq_of_lt, mul-pos, arith}
+use Rattle.std.proofs.Math.Nat.{div-eq_of_lt, div-zero, eq-zero-or-pos, add-div_right, suc-mul}
+use Rattle.std.proofs.lemmas.Nat.{div-mul-add, div-add-mod', le-div, mod_below, div_below}
 use Rattle.std.proofs.lemmas.Bool.{and_parts, and_cases, or_cases, both_ways, leb-true, ltb-true, ltb-false, eqb-true, eqb-false, eq-eqb, ne_eqb, cases_eq}
 use Rattle.calendar.specs.declared.grant.Grant.{Grant}
 use Rattle.calendar.specs.declared.time.Time.{Time}
@@ -20,22 +20,6 @@ listed p (x ∷ xs) a n h =
     let b = and_parts (p x) (every p xs) a in
     ⊎_elim (λ e. ap p (eqb-true n x e) ∙ b.0) (λ e. listed p xs b.1 n e) (or_cases (eqb n x) (member n xs) h)
 
--- 1, 2 or 4 copies
-abbrev pub Few : ℕ → Type 0
-Few r = (r ≡ 1) ⊎ ((r ≡ 2) ⊎ (r ≡ 4))
-
-pub by_few : (P : ℕ → Type 0) → P 1 → P 2 → P 4 → (r : ℕ) → Few r → P r
-by_few P p1 p2 p4 r (inl e) = subst P (sym e) p1
-by_few P p1 p2 p4 r (inr (inl e)) = subst P (sym e) p2
-by_few P p1 p2 p4 r (inr (inr e)) = subst P (sym e) p4
-
-pub copies_few : (g : Grant) → repetitions_allowed g ≡ true → Few (copies g)
-copies_few g h =
-    let t = listed (λ n. eqb (min n 4) 1 || (eqb (min n 4) 2 || eqb (min n 4) 4)) repetition_counts refl g.repetitions h in
-    ⊎_elim (λ e. inl (eqb-true (copies g) 1 e))
-    (λ e. inr (⊎_elim (λ f. inl (eqb-true (copies g) 2 f)) (λ f. inr (eqb-true (copies g) 4 f)) (or_cases (eqb (copies g) 2) (eqb (copies g) 4) e)))
-    (or_cases (eqb (copies g) 1) (eqb (copies g) 2 || eqb (copies g) 4) t)
-
 pub count_some : (g : Grant) → count_allowed g ≡ true → 0 < g.subframes
 count_some g h = ltb-true 0 g.subframes (listed (ltb 0) counts refl g.subframes h)
 
@@ -45,21 +29,19 @@ count_most g h = leb-true g.subframes 10 (listed (λ n. leb n 10) counts refl g.
 pub repetitions_some : (g : Grant) → repetitions_allowed g ≡ true → 0 < g.repetitions
 repetitions_some g h = ltb-true 0 g.repetitions (listed (ltb 0) repetition_counts refl g.repetitions h)
 
-few_some : (r : ℕ) → Few r → 0 < r
-few_some r f = by_few (λ r. 0 < r) (omega arith) (omega arith) (omega arith) r f
+pub copies_some : (g : Grant) → repetitions_allowed g ≡ true → 0 < copies g
+copies_some g h = let r = repetitions_some g h in omega arith
 
 pub round_some : (g : Grant) → count_allowed g ≡ true → repetitions_allowed g ≡ true → 0 < round g
-round_some g c r = mul-pos (count_some g c) (few_some (copies g) (copies_few g r))
+round_some g c r = mul-pos (count_some g c) (copies_some g r)
 
 pub whole_some : (g : Grant) → count_allowed g ≡ true → repetitions_allowed g ≡ true → 0 < whole g
 whole_some g c r = mul-pos (count_some g c) (repetitions_some g r)
 
 -- each part is one of the word's
-pub part_below : (g : Grant) (k : ℕ) → Few (copies g) → 0 < g.subframes → part_at g k < g.subframes
+pub part_below : (g : Grant) (k : ℕ) → 0 < copies g → 0 < g.subframes → part_at g k < g.subframes
 unfolding part_at
-part_below g k f some =
-    let r = few_some (copies g) f in
-    div_below (k % round g) (copies g) g.subframes r (mod_below k (round g) (mul-pos some r))
+part_below g k r n = div_below (k % round g) (copies g) g.subframes r (mod_below k (round g) (mul-pos n r))
 
 -- the last subframe, by what is owed and by what is gone
 pub last_gone : (g : Grant) (k : ℕ) → k < whole g → eqb (owed g k) 0 ≡ eqb (suc k) (whole g)
@@ -92,37 +74,57 @@ seed_first identity g start k h =
 abbrev pub reads : Grant → ℕ → ℕ
 reads g k = min g.subframes ((k + (copies g - 1)) / copies g)
 
-few_none : (n r : ℕ) → Few r → min n ((0 + (r - 1)) / r) ≡ 0
-few_none n r f = by_few (λ r. min n ((0 + (r - 1)) / r) ≡ 0) (omega arith) (omega arith) (omega arith) r f
+-- k / r rounded up, and one k further
+module _ (k r : ℕ) (some : 0 < r) where
+  up_next : (suc k + (r - 1)) / r ≡ suc (k / r)
+  up_next = ap (λ (x : ℕ). x / r) (omega arith) ∙ add-div_right k some ∙ omega arith
 
-few_now : (n k r : ℕ) → Few r → k < n * r → k % r ≡ 0 → min n ((k + (r - 1)) / r) ≡ k / r
-few_now n k r f = by_few (λ r. k < n * r → k % r ≡ 0 → min n ((k + (r - 1)) / r) ≡ k / r)
-    (λ h e. omega arith) (λ h e. omega arith) (λ h e. omega arith) r f
+  up_start : k % r ≡ 0 → (k + (r - 1)) / r ≡ k / r
+  up_start h =
+      let d = div-add-mod' k r in
+      ap (λ (x : ℕ). x / r) (omega arith) ∙ div-mul-add (k / r) r (r - 1) (omega arith)
 
-few_next : (n k r : ℕ) → Few r → k < n * r → k % r ≡ 0 → min n ((suc k + (r - 1)) / r) ≡ suc (k / r)
-few_next n k r f = by_few (λ r. k < n * r → k % r ≡ 0 → min n ((suc k + (r - 1)) / r) ≡ suc (k / r))
-    (λ h e. omega arith) (λ h e. omega arith) (λ h e. omega arith) r f
+  up_in : 0 < k % r → (k + (r - 1)) / r ≡ suc (k / r)
+  up_in h =
+      let d = div-add-mod' k r in
+      let low = mod_below k r some in
+      let s = suc-mul (k / r) r in
+      ap (λ (x : ℕ). x / r) (omega arith) ∙ div-mul-add (suc (k / r)) r (k % r - 1) (omega arith)
 
-few_past : (n k r : ℕ) → Few r → n * r ≤ k → min n ((suc k + (r - 1)) / r) ≡ min n ((k + (r - 1)) / r)
-few_past n k r f = by_few (λ r. n * r ≤ k → min n ((suc k + (r - 1)) / r) ≡ min n ((k + (r - 1)) / r))
-    (λ h. omega arith) (λ h. omega arith) (λ h. omega arith) r f
+  -- past n runs, or within one, one k further leaves no more than n of them as many as they were
+  up_same : (n : ℕ) → (n * r ≤ k) ⊎ (0 < k % r) → min n ((suc k + (r - 1)) / r) ≡ min n ((k + (r - 1)) / r)
+  up_same n h =
+      ⊎_elim
+      (λ e. let past = ⊎_elim (λ l. l) (λ l. absurd (omega arith)) h in
+      omega (arith, up_next, up_start e, le-div n k r some past))
+      (λ l. omega (arith, up_next, up_in l))
+      (eq-zero-or-pos (k % r))
 
-few_same : (n k r : ℕ) → Few r → (k % r ≡ 0 → ⊥) → min n ((suc k + (r - 1)) / r) ≡ min n ((k + (r - 1)) / r)
-few_same n k r f = by_few (λ r. (k % r ≡ 0 → ⊥) → min n ((suc k + (r - 1)) / r) ≡ min n ((k + (r - 1)) / r))
-    (λ h. omega arith) (λ h. omega arith) (λ h. omega arith) r f
+pub reads_none : (g : Grant) → reads g 0 ≡ 0
+reads_none g = ⊎_elim (λ e. omega arith) (λ l. omega (arith, up_start 0 (copies g) l (omega arith))) (eq-zero-or-pos (copies g))
 
-pub reads_none : (g : Grant) → Few (copies g) → reads g 0 ≡ 0
-reads_none g f = few_none g.subframes (copies g) f
+-- where a part goes out for the first time, the word is read up to it
+module _ (g : Grant) (k : ℕ) (h : first_copy g k ≡ true) where
+  first_some : 0 < copies g
+  first_some =
+      let p = (first_is g k h).0 in
+      ⊎_elim (λ e. let z = ap (λ (r : ℕ). g.subframes * r) e in absurd (omega arith)) (λ l. l) (eq-zero-or-pos (copies g))
 
-pub reads_now : (g : Grant) (k : ℕ) → Few (copies g) → first_copy g k ≡ true → reads g k ≡ part_at g k
-reads_now g k f h = let p = first_is g k h in few_now g.subframes k (copies g) f p.0 p.1 ∙ sym (part_first g k p.0)
+  first_below : k / copies g < g.subframes
+  first_below = div_below k (copies g) g.subframes first_some (first_is g k h).0
 
-pub reads_next : (g : Grant) (k : ℕ) → Few (copies g) → first_copy g k ≡ true → reads g (suc k) ≡ suc (part_at g k)
-reads_next g k f h = let p = first_is g k h in few_next g.subframes k (copies g) f p.0 p.1 ∙ ap suc (sym (part_first g k p.0))
+  pub reads_now : reads g k ≡ part_at g k
+  reads_now =
+      let p = first_is g k h in
+      omega (arith, up_start k (copies g) first_some p.1, part_first g k p.0, first_below)
 
-pub reads_same : (g : Grant) (k : ℕ) → Few (copies g) → first_copy g k ≡ false → reads g (suc k) ≡ reads g k
+  pub reads_next : reads g (suc k) ≡ suc (part_at g k)
+  reads_next = omega (arith, up_next k (copies g) first_some, part_first g k (first_is g k h).0, first_below)
+
+pub reads_same : (g : Grant) (k : ℕ) → first_copy g k ≡ false → reads g (suc k) ≡ reads g k
 unfolding first_copy
-reads_same g k f h =
-    ⊎_elim (λ e. few_past g.subframes k (copies g) f (ltb-false k (round g) e))
-    (λ e. few_same g.subframes k (copies g) f (eqb-false (k % copies g) 0 e))
-    (and_cases (ltb k (round g)) (eqb (k % copies g) 0) h)
+reads_same g k h =
+    ⊎_elim (λ e. omega (arith, div-zero (suc k + (copies g - 1)), div-zero (k + (copies g - 1))))
+    (λ some. up_same k (copies g) some g.subframes (⊎_elim (λ e. inl (ltb-false k (round g) e))
+    (λ e. let ne = eqb-false (k % copies g) 0 e in inr (omega arith)) (and_cases (ltb k (round g)) (eqb (k % copies g) 0) h)))
+    (eq-zero-or-pos (copies g))

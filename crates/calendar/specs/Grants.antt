@@ -1,5 +1,5 @@
 -- What a grant may name, and the numbers of the refusals. Assumes nothing.
-use Rattle.std.specs.Prelude.{ℕ, ◌*◌, ◌%◌, Bool, false, cond, not, ◌&&◌, ◌||◌, List, [], ◌∷◌, Some, None, Option, ◌==◌, nat_le}
+use Rattle.std.specs.Prelude.{◌≡◌, ℕ, ◌*◌, ◌%◌, Bool, true, false, cond, not, ◌&&◌, ◌||◌, List, [], ◌∷◌, Some, None, Option, ◌==◌, nat_le}
 use Rattle.calendar.specs.declared.fault.GrantFault.{GrantFault}
 use Rattle.calendar.specs.declared.fault.GrantFault.TheVariants.{Rnti, SubframeCount, Repetitions, BlockLength}
 use Rattle.calendar.specs.declared.grant.Grant.{Grant}
@@ -36,6 +36,13 @@ repetitions_allowed g = member g.repetitions repetition_counts
 -- a multiple of 8 from 16 to 2,536
 abbrev pub length_allowed : Grant → Bool
 length_allowed g = nat_le 16 g.length && (nat_le g.length 2536 && g.length % 8 == 0)
+
+-- a grant that all tests let pass
+pub record Allowed (g : Grant) : Type 0 where
+  pub called : rnti_allowed g ≡ true
+  pub counted : count_allowed g ≡ true
+  pub repeated : repetitions_allowed g ≡ true
+  pub sized : length_allowed g ≡ true
 
 -- what turns a grant down: the first of its tests, by rising number, that fails
 abbrev pub grant_refusal : Grant → Option GrantFault

@@ -1,9 +1,8 @@
 -- Identities of cells, from 0 to 503. Assumes nothing.
 use Rattle.std.specs.Prelude.{ℕ, cond, Some, None, Option, nat_le}
-use Rattle.calendar.specs.declared.identity.Identity.{Identity}
 
-abbrev pub number_of : Identity → ℕ
-number_of i = i.value
+abbrev pub number_of : ℕ → ℕ
+number_of i = i
 
 -- an identity of that number, if there is one
 abbrev pub known : ℕ → Option ℕ

@@ -3,4 +3,5 @@ pub mod Times
 pub mod Grants
 pub mod Rounds
 pub mod Courses
+pub mod Kept
 pub mod Calendar

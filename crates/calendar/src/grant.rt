@@ -46,31 +46,27 @@ impl Grant {
     fn rnti_allowed(self) -> bool
         ensures { result ≡ rnti_allowed self }
     {
-        self.rnti >= 1 && self.rnti <= 65535
+        (1..=65535).contains(&self.rnti)
     }
 
     fn count_allowed(self) -> bool
         ensures { result ≡ count_allowed self }
     {
-        match self.subframes {
-            1 | 2 | 3 | 4 | 5 | 6 | 8 | 10 => true,
-            _ => false,
-        }
+        matches!(self.subframes, 1 | 2 | 3 | 4 | 5 | 6 | 8 | 10)
     }
 
     fn repetitions_allowed(self) -> bool
         ensures { result ≡ repetitions_allowed self }
     {
-        match self.repetitions {
-            1 | 2 | 4 | 8 | 16 | 32 | 64 | 128 => true,
-            192 | 256 | 384 | 512 | 768 | 1024 | 1536 | 2048 => true,
-            _ => false,
-        }
+        matches!(
+            self.repetitions,
+            1 | 2 | 4 | 8 | 16 | 32 | 64 | 128 | 192 | 256 | 384 | 512 | 768 | 1024 | 1536 | 2048
+        )
     }
 
     fn length_allowed(self) -> bool
         ensures { result ≡ length_allowed self }
     {
-        self.length >= 16 && self.length <= 2536 && self.length % 8 == 0
+        (16..=2536).contains(&self.length) && self.length % 8 == 0
     }
 }

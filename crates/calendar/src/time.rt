@@ -18,8 +18,8 @@ impl Time {
     {
         if self.subframe < 9 {
             return Time {
-                frame: self.frame,
                 subframe: self.subframe + 1,
+                ..self
             };
         }
         Time {

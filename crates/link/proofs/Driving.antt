@@ -1,34 +1,20 @@
 -- A subframe of the driver: the cell's call, and the hearing that follows it. Assumes nothing.
-use Rattle.std.proofs.Common.{◌≡◌, ℕ, false, not, ◌||◌, eqb, ltb, List, [], ◌∷◌, length, Some, None, Option, Result, refl, ap, ◌∙◌, ap₂, arith}
+use Rattle.std.proofs.Common.{◌≡◌, ℕ, false, not, ◌||◌, eqb, ltb, List, [], ◌∷◌, length, Some, None, Option, Result, refl, ap, ◌∙◌, ap₂}
 use Rattle.std.specs.Result.{result_err}
-use Rattle.std.proofs.lemmas.Bool.{cond_both, le-ltb}
 use Rattle.std.proofs.lemmas.List.{length-replicate}
 use Rattle.stage.specs.Bits.{zeros}
-use Rattle.stage.specs.Meaning.{Meaning}
 use Rattle.stage.specs.Refusals.{short}
 use Rattle.point.specs.Kinds.{Kind}
-use Rattle.calendar.specs.declared.course.Course.{Course}
-use Rattle.calendar.specs.Courses.{going_of}
 use Rattle.air.specs.declared.answers.Outcome.{Outcome}
 use Rattle.air.specs.declared.fault.EndFault.{EndFault}
 use Rattle.air.specs.declared.fault.EndFault.TheVariants.{ShortBuffer, GridSize}
 use Rattle.air.specs.Refusals.{settled, answered, subframe_refusal}
 use Rattle.air.specs.Cells.{airs, stepped}
-use Rattle.air.specs.Terminals.{short_block, hears}
-use Rattle.air.specs.TerminalViews.{covered, covered_by, awaiting_of}
+use Rattle.air.specs.Terminals.{hears}
 use Rattle.air.proofs.Ordered.{all_pass}
 use Rattle.link.specs.Calls.{subframe}
 use Rattle.link.specs.Following.{LinkState, unheard, hearkens, followed, linked_on, handed_on, block_heard}
 use Rattle.link.specs.Links.{hears_in, heard_in}
-use Rattle.link.proofs.Passing.{length_most}
-
--- a block buffer of 2,536 bytes is long enough for every grant that is awaited
-pub room : (m : Meaning) (table : List ℕ) (c : Option Course) (block : List ℕ) → length block ≡ 2536
-    → short_block (covered_by m table c) block ≡ false
-room m table None block h = refl
-room m table (Some c) block h =
-    cond_both (covered m (going_of c).grant) (Some (awaiting_of table c)) None (λ a. short_block a block ≡ false)
-    (λ _. le-ltb (length block) c.grant.length (let l = length_most c.grant c.sized in omega arith)) (λ _. refl)
 
 zeroed : (r : Option EndFault) (n : ℕ) → settled r (zeros n) (zeros (length (zeros n))) ≡ zeros n
 zeroed None n = ap zeros (length-replicate {A = ℕ} n 0)

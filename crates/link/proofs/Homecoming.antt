@@ -15,7 +15,7 @@ use Rattle.calendar.specs.Grants.{part_bits, rnti_allowed, count_allowed, repeti
 use Rattle.calendar.specs.Rounds.{owed, first_copy, last_part}
 use Rattle.calendar.specs.Times.{after, closed}
 use Rattle.calendar.specs.Courses.{begun}
-use Rattle.calendar.proofs.Counting.{copies_few, count_some, whole_some, reads_none}
+use Rattle.calendar.proofs.Counting.{copies_some, count_some, whole_some, reads_none}
 use Rattle.calendar.proofs.Openings.{after_small}
 use Rattle.air.specs.declared.fault.EndFault.{EndFault}
 use Rattle.air.specs.declared.fault.EndFault.TheVariants.{ShortBuffer, GridSize, ShortBlock, NoPair}
@@ -168,7 +168,7 @@ lasts_new m busy g work side t e timed =
     let repeated = not-false (repetitions_allowed g) p.1.1.0 in
     let sized = not-false (length_allowed g) p.1.1.1.0 in
     record {
-      few = copies_few g repeated;
+      few = copies_some g repeated;
       some = count_some g counted;
       called = leb-true g.rnti 65535 (and_parts (leb 1 g.rnti) (leb g.rnti 65535) (not-false (rnti_allowed g) p.0)).1;
       long = length_most g sized;
@@ -200,7 +200,7 @@ told_is c g work p lasts true e =
         read = take (part_bits * n) (word_at c.identity c.chain (sending_new g work c.time) 0);
       })) None;
     })
-    (sym (reads_none g lasts.few)) (sym e)
+    (sym (reads_none g)) (sym e)
 told_is c g work p lasts false e =
     ap (λ a. record { identity = c.identity; time = c.time; chain = c.chain; awaited = a })
     (awaiting_none c.identity c.chain c.pending p.1.1.1.1.0

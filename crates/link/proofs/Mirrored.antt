@@ -11,7 +11,7 @@ use Rattle.calendar.specs.declared.grant.Grant.{Grant}
 use Rattle.calendar.specs.Grants.{part_bits, output}
 use Rattle.calendar.specs.Rounds.{copies, whole, owed, part_at, first_copy, last_part, seed_at}
 use Rattle.calendar.specs.Courses.{Going, one_on}
-use Rattle.calendar.proofs.Counting.{Few, reads, seed_first, reads_now, reads_next, reads_same, part_below, last_gone}
+use Rattle.calendar.proofs.Counting.{reads, seed_first, reads_now, reads_next, reads_same, part_below, last_gone}
 use Rattle.calendar.proofs.Rounds.{seed_small}
 use Rattle.air.specs.Cells.{Sending, part_of, sent_bits, one_sent}
 use Rattle.air.specs.Terminals.{Awaiting, Hearing, one_heard, finished, reading, block_of}
@@ -40,7 +40,7 @@ part_is n p w h low =
 
 -- an accepted grant that is not over
 pub record Lasts (m : Meaning) (s : Sending) : Type 0 where
-  pub few : Few (copies s.going.grant)
+  pub few : 0 < copies s.going.grant
   pub some : 0 < s.going.grant.subframes
   pub called : s.going.grant.rnti ≤ 65535
   pub long : s.going.grant.length ≤ 2536
@@ -146,10 +146,10 @@ module _ (identity : ℕ) (small : identity ≤ 503) (m : Meaning) (law : Lawful
   -- one part more
   read_more : first_copy g k ≡ true → take (part_bits * reads g k) w ++ sent_bits identity m s ≡ take (part_bits * reads g (suc k)) w
   read_more h =
-      ap₂ (λ (p : ℕ) (v : List ℕ). take (320 * p) w ++ part_of (part_at g k) v) (reads_now g k lasts.few h) (same_word h)
+      ap₂ (λ (p : ℕ) (v : List ℕ). take (320 * p) w ++ part_of (part_at g k) v) (reads_now g k h) (same_word h)
       ∙ take_join (320 * part_at g k) 320 w
       ∙ ap (λ (n : ℕ). take n w)
-      (let e = reads_next g k lasts.few h in
+      (let e = reads_next g k h in
       let f : 320 * part_at g k + 320 ≡ 320 * suc (part_at g k) = omega arith in
       f ∙ ap (λ (p : ℕ). 320 * p) (sym e))
 
@@ -157,7 +157,7 @@ module _ (identity : ℕ) (small : identity ≤ 503) (m : Meaning) (law : Lawful
   read_all : first_copy g k ≡ true → last_part g k ≡ true → take (part_bits * reads g (suc k)) w ≡ w
   read_all h l =
       take_all (320 * reads g (suc k)) w
-      (omega (arith, (word_is 0).0, reads_next g k lasts.few h, eqb-true (part_at g k + 1) g.subframes l))
+      (omega (arith, (word_is 0).0, reads_next g k h, eqb-true (part_at g k + 1) g.subframes l))
 
   module _ (cov : m.covers g.length (output g) ≡ true) where
     awaited_next : (read : List ℕ) → read ≡ take (part_bits * reads g (suc k)) w
@@ -190,7 +190,7 @@ module _ (identity : ℕ) (small : identity ≤ 503) (m : Meaning) (law : Lawful
     pub right : (buffer : List ℕ) (first last : Bool) → first_copy g k ≡ first → last_part g k ≡ last
         → Right (reading identity m (mirror identity m s) (sent_bits identity m s) buffer first last) (first && last)
     right buffer false last e l = record {
-      awaited_is = awaited_next _ (ap (λ (p : ℕ). take (320 * p) w) (sym (reads_same g k lasts.few e)));
+      awaited_is = awaited_next _ (ap (λ (p : ℕ). take (320 * p) w) (sym (reads_same g k e)));
       handed_is = refl;
     }
     right buffer true false e l = record { awaited_is = awaited_next _ (read_more e); handed_is = refl }

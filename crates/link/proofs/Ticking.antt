@@ -1,10 +1,12 @@
 -- When all parts of a grant are ticked. Assumes nothing.
 use Rattle.std.proofs.Common.{◌≡◌, ℕ, zero, suc, ◌+◌, ◌-◌, ◌*◌, ◌/◌, ◌%◌, ◌<◌, ◌≤◌, Bool, true, false, not, ◌&&◌, eqb, ltb, List, [], ◌∷◌, sym, refl, ap, ◌∙◌, subst, ap₂, ⊎_elim, arith}
 use Rattle.std.proofs.lemmas.Bool.{and_from, and_left, and_right, or_left, or_right, or_from, lt-ltb, le-ltb, eqb-true, eq-eqb, ne_eqb, cases_lt, cases_eq, not_from_true, not_from_false}
+use Rattle.std.proofs.Math.Nat.{suc-mul, mul-le-mul_right, mul-mod_left, mul-div_cancel}
+use Rattle.std.proofs.lemmas.Nat.{div-add-mod', div_below}
 use Rattle.calendar.specs.declared.grant.Grant.{Grant}
 use Rattle.calendar.specs.Grants.{member}
 use Rattle.calendar.specs.Rounds.{copies, round, part_at, first_copy, last_part}
-use Rattle.calendar.proofs.Counting.{Few, by_few, first_is, part_first}
+use Rattle.calendar.proofs.Counting.{first_is, part_first}
 use Rattle.link.specs.Account.{complete}
 
 -- the ticks once k subframes are gone
@@ -12,25 +14,29 @@ abbrev pub ticked_after : Grant → ℕ → List ℕ
 ticked_after g zero = []
 ticked_after g (suc k) = part_at g k ∷ ticked_after g k
 
-few_low : (n k r : ℕ) → Few r → k < n * r → (k < suc n * r) × (k / r < n)
-few_low n k r f = by_few (λ r. k < n * r → (k < suc n * r) × (k / r < n)) (λ h. omega arith) (λ h. omega arith) (λ h. omega arith) r f
+module _ (g : Grant) (some : 0 < copies g) (n : ℕ) (is : g.subframes ≡ suc n) where
+  below : (k : ℕ) → k < n * copies g → (k < suc n * copies g) × (k / copies g < n)
+  below k h = (let s = suc-mul n (copies g) in omega arith, div_below k (copies g) n some h)
 
-few_at : (n p r : ℕ) → Few r → p ≤ n → (p * r ≤ n * r) × (p * r < suc n * r) × (p * r % r ≡ 0) × (p * r / r ≡ p)
-few_at n p r f = by_few (λ r. p ≤ n → (p * r ≤ n * r) × (p * r < suc n * r) × (p * r % r ≡ 0) × (p * r / r ≡ p))
-    (λ h. omega arith) (λ h. omega arith) (λ h. omega arith) r f
+  at : (p : ℕ) → p ≤ n → (p * copies g ≤ n * copies g) × (p * copies g < suc n * copies g) × (p * copies g % copies g ≡ 0) × (p * copies g / copies g ≡ p)
+  at p h =
+      let l = mul-le-mul_right (copies g) h in
+      let s = suc-mul n (copies g) in
+      (l, omega arith, mul-mod_left p (copies g), mul-div_cancel p some)
 
-few_only : (n k r : ℕ) → Few r → k < suc n * r → k % r ≡ 0 → k / r + 1 ≡ suc n → k ≡ n * r
-few_only n k r f = by_few (λ r. k < suc n * r → k % r ≡ 0 → k / r + 1 ≡ suc n → k ≡ n * r)
-    (λ h e l. omega arith) (λ h e l. omega arith) (λ h e l. omega arith) r f
+  only : (k : ℕ) → k % copies g ≡ 0 → k / copies g + 1 ≡ suc n → k ≡ n * copies g
+  only k e l =
+      let d = div-add-mod' k (copies g) in
+      let q : k / copies g ≡ n = omega arith in
+      omega (arith, d, e, ap (λ (x : ℕ). x * copies g) q)
 
-module _ (g : Grant) (f : Few (copies g)) (n : ℕ) (is : g.subframes ≡ suc n) where
   in_round : (k : ℕ) → k < suc n * copies g → k < round g
   in_round k h = subst (λ (x : ℕ). k < x * copies g) (sym is) h
 
   not_yet : (k : ℕ) → k ≤ n * copies g → member n (ticked_after g k) ≡ false
   not_yet zero h = refl
   not_yet (suc k) h =
-      let low = few_low n k (copies g) f h in
+      let low = below k h in
       let at = part_first g k (in_round k low.0) in
       or_from (eqb n (part_at g k)) (member n (ticked_after g k)) (ne_eqb n (part_at g k) (λ e. omega arith)) (not_yet k (omega arith))
 
@@ -39,7 +45,7 @@ module _ (g : Grant) (f : Few (copies g)) (n : ℕ) (is : g.subframes ≡ suc n)
   ticked p low (suc k) h =
       ⊎_elim
       (λ e. or_left (eqb p (part_at g k)) (member p (ticked_after g k))
-      (let q = few_at n p (copies g) f low in
+      (let q = at p low in
       eq-eqb p (part_at g k) (sym (ap (part_at g) (sym e) ∙ part_first g (p * copies g) (in_round (p * copies g) q.1) ∙ q.3))))
       (λ ne. or_right (eqb p (part_at g k)) (member p (ticked_after g k))
       (ticked p low k (omega arith)))
@@ -49,7 +55,7 @@ module _ (g : Grant) (f : Few (copies g)) (n : ℕ) (is : g.subframes ≡ suc n)
   all_ticked k h zero low = refl
   all_ticked k h (suc j) low =
       and_from (member j (ticked_after g k)) (complete j (ticked_after g k))
-      (ticked j (omega arith) k (let q = few_at n j (copies g) f (omega arith) in omega arith))
+      (ticked j (omega arith) k (let q = at j (omega arith) in omega arith))
       (all_ticked k h j (omega arith))
 
   -- all parts are ticked past the first copy of the last one
@@ -63,7 +69,7 @@ module _ (g : Grant) (f : Few (copies g)) (n : ℕ) (is : g.subframes ≡ suc n)
   last_there : (k : ℕ) → n * copies g ≡ k → (first_copy g k && last_part g k) ≡ true
   unfolding first_copy
   last_there k e =
-      let q = few_at n n (copies g) f (omega arith) in
+      let q = at n (omega arith) in
       let r : k < round g = in_round k (subst (λ (x : ℕ). x < suc n * copies g) e q.1) in
       and_from (first_copy g k) (last_part g k)
       (and_from (ltb k (round g)) (eqb (k % copies g) 0) (lt-ltb k (round g) r)
@@ -81,8 +87,7 @@ module _ (g : Grant) (f : Few (copies g)) (n : ℕ) (is : g.subframes ≡ suc n)
           let h = first_is g k p in
           let at = part_first g k h.0 in
           let l : part_at g k + 1 ≡ g.subframes = eqb-true (part_at g k + 1) g.subframes q in
-          let r : k < suc n * copies g = subst (λ (x : ℕ). k < x * copies g) is h.0 in
-          absurd (ne (sym (few_only n k (copies g) f r h.1 (omega arith))))
+          absurd (ne (sym (only k h.1 (omega arith))))
 
   completes-at : (k : ℕ)
       → (complete g.subframes (ticked_after g (suc k)) && not (complete g.subframes (ticked_after g k))) ≡ (first_copy g k && last_part g k)
@@ -100,6 +105,6 @@ module _ (g : Grant) (f : Few (copies g)) (n : ℕ) (is : g.subframes ≡ suc n)
       (cases_eq (n * copies g) k)
 
 -- the tick that completes all parts is the first copy of the last part in the first round
-pub completing : (g : Grant) (k : ℕ) → Few (copies g) → 0 < g.subframes
+pub completing : (g : Grant) (k : ℕ) → 0 < copies g → 0 < g.subframes
     → (complete g.subframes (ticked_after g (suc k)) && not (complete g.subframes (ticked_after g k))) ≡ (first_copy g k && last_part g k)
-completing g k f some = completes-at g f (g.subframes - 1) (omega arith) k
+completing g k few some = completes-at g few (g.subframes - 1) (omega arith) k

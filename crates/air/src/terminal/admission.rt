@@ -24,8 +24,8 @@ use stage::fault::StageFault;
 use stage::stages::Stage;
 
 // Test 18, by the length of the block buffer.
-pub(crate) fn check_block(awaited: Option<Course>, block: &[u8]) -> Result<(), EndFault>
-    ensures { (table : List ℕ) → result_err result ≡ first_fault ((short_block (option_map (awaiting_of table) awaited) block.now, ShortBlock) ∷ []) }
+pub(crate) fn check_block(awaited: &Option<Course>, block: &[u8]) -> Result<(), EndFault>
+    ensures { (table : List ℕ) → result_err result ≡ first_fault ((short_block (option_map (awaiting_of table) awaited.now) block.now, ShortBlock) ∷ []) }
 {
     match awaited {
         Some(course) => {

@@ -70,8 +70,8 @@ impl<S: Stage, P: Point> Terminal<S, P> {
         check_buffers(work, side)?;
         check_grid(grid.len())?;
         let awaited = self.current();
-        check_block(awaited, block)?;
-        let slot = slot_for(!self.end.time.is_open(), awaited);
+        check_block(&awaited, block)?;
+        let slot = slot_for(!self.end.time.is_open(), &awaited);
         let bits = listen(grid, self.end.identity, slot)?;
         let outcome = self.take_in(awaited, slot, &bits, work, side, block);
         clear_both(work, side);

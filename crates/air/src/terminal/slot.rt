@@ -16,8 +16,8 @@ pub(crate) enum Slot {
 }
 
 // What a subframe is to a terminal, by whether it is closed and by the grant that is awaited.
-pub(crate) fn slot_for(shut: bool, awaited: Option<Course>) -> Slot
-    ensures { result ≡ slot_of shut (option_map going_of awaited) }
+pub(crate) fn slot_for(shut: bool, awaited: &Option<Course>) -> Slot
+    ensures { result ≡ slot_of shut (option_map going_of awaited.now) }
 {
     if shut {
         return Slot::Closed;

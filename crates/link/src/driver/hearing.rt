@@ -3,7 +3,7 @@ ghost use Rattle.std.specs.Result.{result_err};
 ghost use Rattle.stage.specs.Bits.{zeros};
 ghost use Rattle.air.specs.Cells.{airs, stepped};
 ghost use Rattle.air.specs.Refusals.{subframe_refusal, end_refusal, settled, answered};
-ghost use Rattle.air.specs.Terminals.{hears};
+ghost use Rattle.air.specs.Terminals.{short_block, hears};
 ghost use Rattle.link.specs.Following.{unheard, hearkens, forgot};
 ghost use Rattle.link.specs.Links.{link_of, hears_in};
 ghost use Rattle.link.specs.Sinks.{Taken};
@@ -49,6 +49,7 @@ impl<S: Stage, P: Point> Link<S, P> {
         ensures link { link_of S.Stage.meaning self.new ≡ record { cell = (link_of S.Stage.meaning self.old).cell; terminal = (hearkens P.Point.kind (link_of S.Stage.meaning self.old).terminal (hears_in work.old side.old self.old.block) grid.now).0 } }
         ensures handed { Taken K.Sink.takes sink.old (hearkens P.Point.kind (link_of S.Stage.meaning self.old).terminal (hears_in work.old side.old self.old.block) grid.now).1 sink.new }
         ensures room { length self.old.block ≡ 2536 }
+        ensures long { short_block (link_of S.Stage.meaning self.old).terminal.awaited self.old.block ≡ false }
         ensures block { self.new.block ≡ settled (result_err result) self.old.block (hears P.Point.kind (link_of S.Stage.meaning self.old).terminal self.old.block grid.now).buffer }
         ensures work { work.new ≡ settled (result_err result) work.old (zeros (length work.old)) }
         ensures side { side.new ≡ settled (result_err result) side.old (zeros (length side.old)) }

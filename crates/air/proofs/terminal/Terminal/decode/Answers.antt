@@ -8,7 +8,7 @@ returns-in-Ok g c =
     let n = c.length-n in
     let long : length c.args.self.now.word ≡ 3200 = search rules in
     let is =
-    block_decoded _ (g.met.S.Stage.lawful c.args.self.now.chain) c.args.course c.requires.fits n.result _ _ _ n.ensures.value
+    block_decoded _ (g.met.S.Stage.lawful c.args.self.now.chain) c.args.course c.requires.fits n.ensures.allowed n.result _ _ _ n.ensures.value
     c.output-output.ensures.value c.seed-seed.ensures.value c.output-output.ensures.most c.seed-seed.ensures.most
     c.args.self.now.word c.args.work.now c.copy_front.new.to c.args.side.now c.back.new.work c.back.new.side long
     (omega (arith, c.copy_front.auto.to, c.requires.roomy.0)) c.requires.roomy.1 c.copy_front.ensures.after _ c.in-Ok.ensures in
@@ -24,7 +24,7 @@ returns-in-Err g c =
     let n = c.length-n in
     let long : length c.args.self.now.word ≡ 3200 = search rules in
     let is =
-    block_spoiled _ (g.met.S.Stage.lawful c.args.self.now.chain) c.args.course c.requires.fits n.result _ _ _ n.ensures.value
+    block_spoiled _ (g.met.S.Stage.lawful c.args.self.now.chain) c.args.course c.requires.fits n.ensures.allowed n.result _ _ _ n.ensures.value
     c.output-output.ensures.value c.seed-seed.ensures.value c.output-output.ensures.most c.seed-seed.ensures.most
     c.args.self.now.word c.args.work.now c.copy_front.new.to c.args.side.now c.back.new.work c.back.new.side long
     (omega (arith, c.copy_front.auto.to, c.requires.roomy.0)) c.requires.roomy.1 c.copy_front.ensures.after _ c.in-Err.ensures in

@@ -7,7 +7,7 @@ use Rattle.air.proofs.terminal.Terminal.read_part.Goals as goal
 pub returns-then-not-is_last_part : goal.returns-then-not-is_last_part
 returns-then-not-is_last_part g c =
     let h =
-    part_comes _ c.args.self.now.end.identity.value c.args.course c.requires.fits c.requires.first c.part-part.result c.part-part.ensures.value
+    part_comes _ c.args.self.now.end.identity c.args.course c.requires.fits c.requires.first c.part-part.result c.part-part.ensures.value
     c.args.self.now.word c.put_part.new.table c.args.bits.now c.args.block.now c.put_part.ensures
     (sym c.if-not-is_last_part.ensures) c.advanced-self.result c.advanced-self.ensures in
     record {
@@ -19,7 +19,7 @@ returns-then-not-is_last_part g c =
 pub returns-then-decode : goal.returns-then-decode
 returns-then-decode g c =
     let h =
-    block_comes _ c.args.self.now.end.identity.value c.args.course c.requires.fits c.requires.first c.part-part.result c.part-part.ensures.value
+    block_comes _ c.args.self.now.end.identity c.args.course c.requires.fits c.requires.first c.part-part.result c.part-part.ensures.value
     c.args.self.now.word c.put_part.new.table c.args.bits.now c.args.block.now c.put_part.ensures
     (sym c.if-not-is_last_part.ensures) c.if-decode.ensures.found c.advanced-self-then-decode.result c.advanced-self-then-decode.ensures in
     record {
@@ -31,7 +31,7 @@ returns-then-decode g c =
 pub returns-else-decode : goal.returns-else-decode
 returns-else-decode g c =
     let h =
-    spoiled_comes _ c.args.self.now.end.identity.value c.args.course c.requires.fits c.requires.first c.part-part.result c.part-part.ensures.value
+    spoiled_comes _ c.args.self.now.end.identity c.args.course c.requires.fits c.requires.first c.part-part.result c.part-part.ensures.value
     c.args.self.now.word c.put_part.new.table c.args.bits.now c.args.block.now c.put_part.ensures
     (sym c.if-not-is_last_part.ensures) c.if-decode.ensures.found in
     record {

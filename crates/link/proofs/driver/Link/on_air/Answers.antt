@@ -17,5 +17,5 @@ returns g c =
       block = refl;
       home = subst (λ (l : LinkState). BlocksComeHome g.P.Point.kind l (opened e m)) (sym alike)
           (blocks_come_home g.P.Point.kind g.met.P.Point.lawful m (g.met.S.Stage.lawful c.args.chain) e
-          c.args.parked.identity.known c.args.parked.timed);
+          c.args.parked.known c.args.parked.timed);
     }

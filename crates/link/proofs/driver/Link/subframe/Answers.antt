@@ -1,9 +1,11 @@
 use Rattle.std.proofs.Common.{length, Ok, sym, ap, ◌∙◌, subst, ap₂}
 use Rattle.std.proofs.lemmas.Bool.{true≢false}
 use Rattle.std.specs.Result.{result_err, result_unwrap_or}
+use Rattle.air.specs.Terminals.{TerminalState, short_block}
+use Rattle.link.specs.Following.{LinkState}
 use Rattle.link.specs.Links.{link_of}
 use Rattle.link.specs.Sinks.{Taken}
-use Rattle.link.proofs.Driving.{room, stays_zero, long_zeros, heard_on}
+use Rattle.link.proofs.Driving.{stays_zero, long_zeros, heard_on}
 use Rattle.link.proofs.driver.Link.subframe.Goals as goal
 
 pub returns : goal.returns
@@ -28,7 +30,7 @@ returns g c =
       handed = subst (λ bs. Taken g.K.Sink.takes c.args.sink.now bs c.hear-heard.new.sink) on.hands heard.handed;
       served = λ _. (
         long_zeros K l work side self.block grid aired.refusal,
-        room l.terminal.chain self.terminal.word self.terminal.awaited self.block (ap length (sym aired.block) ∙ heard.room),
+        ap₂ (λ (t : TerminalState) b. short_block t.awaited b) (sym (ap (λ (x : LinkState). x.terminal) aired.link)) (sym aired.block) ∙ heard.long,
       );
       block = on.buffers (result_err c.hear-heard.result) c.hear-heard.new.self.block heard.refusal heard.block;
       work = heard.work ∙ stays_zero (result_err c.hear-heard.result) (length work) last.work aired.work;
