@@ -1,14 +1,21 @@
 -- The walk over the chosen places, one by one: things put on them, and taken from them.
-use Rattle.std.proofs.Common.{◌≡◌, ℕ, zero, suc, ◌+◌, ◌-◌, ◌<◌, ◌≤◌, Bool, true, false, cond, List, [], ◌∷◌, ◌++◌, length, get_or, set, Some, None, Option, sym, refl, ap, ◌∙◌, subst, add-one, arith, append_assoc, length-append}
-use Rattle.std.specs.List.{All, filter, find, filter_map, cons_option, slice_get, fold, zip, range_with_len}
+use Rattle.std.proofs.Common.{◌≡◌, ℕ, zero, suc, ◌+◌, ◌-◌, ◌%◌, ◌<◌, ◌≤◌, Bool, true, false, cond, List, [], ◌∷◌, ◌++◌, length, get_or, set, Some, None, Option, sym, refl, ap, ◌∙◌, subst, add-one, arith, append_assoc, length-append}
+use Rattle.std.specs.List.{find, filter_map, cons_option, slice_get, fold, zip, range_with_len}
 use Rattle.std.specs.Option.{MatchOption}
 use Rattle.std.specs.Iterator.{AlwaysYields}
 use Rattle.std.proofs.Math.Seq.{set-append_seam, get_or-append_seam}
-use Rattle.std.proofs.lemmas.Option.{slice_get_read, slice_get-get_or}
-use Rattle.std.proofs.lemmas.List.Elements.{All-filter}
+use Rattle.std.proofs.lemmas.Option.{slice_get_read}
 use Rattle.std.proofs.lemmas.List.Sums.{length-filter, count_by-le-length}
 use Rattle.std.proofs.lemmas.List.FromFn.{length-range_with_len, get_or-range_with_len}
+use Rattle.grid.specs.declared.places.Places.{Places}
+use Rattle.grid.specs.Purposes.{among}
+use Rattle.grid.specs.Places.{places_left}
 use Rattle.grid.specs.Walk.{laid, taken, next_place, places}
+
+-- all places lie below n
+abbrev pub Below : ℕ → List ℕ → Type 0
+Below n [] = Unit {0}
+Below n (p ∷ ps) = (p < n) × Below n ps
 
 module _ (d : ℕ → Bool) where
   pub next_place-find : (n i : ℕ) → next_place d i n ≡ find d (range_with_len i n)
@@ -16,7 +23,6 @@ module _ (d : ℕ → Bool) where
   next_place-find zero i = refl
   next_place-find (suc n) i = rw (next_place-find n (suc i), add-one)
 
-  -- the next place comes first, and then those after it
   first : (n i end : ℕ) → n ≡ end - i → MatchOption (next_place d i n) (places d i n ≡ []) (λ p. places d i n ≡ p ∷ places d (p + 1) (end - (p + 1)))
   unfolding next_place
   first zero i end e = refl
@@ -27,27 +33,25 @@ module _ (d : ℕ → Bool) where
         | false ↦ rw (← add-one) (first n (i + 1) end (omega arith))
       ]
 
-  pub places_first : (i end : ℕ) (r : Option ℕ) → r ≡ next_place d i (end - i)
-      → MatchOption r (places d i (end - i) ≡ []) (λ p. places d i (end - i) ≡ p ∷ places d (p + 1) (end - (p + 1)))
-  places_first i end r e =
-      subst (λ o. MatchOption o (places d i (end - i) ≡ []) (λ p. places d i (end - i) ≡ p ∷ places d (p + 1) (end - (p + 1)))) (sym e) (first (end - i) i end refl)
+  below_after : (n i m : ℕ) → i + n ≤ m → Below m (places d i n)
+  below_after zero i m h = tt
+  below_after (suc n) i m h =
+      let rest = below_after n (i + 1) m (omega arith) in
+      elim (d i) as (λ b. Below m (cond b (i ∷ places d (i + 1) n) (places d (i + 1) n))) [ true ↦ (omega arith, rest) | false ↦ rest ]
 
-  -- none lies past the end
-  pub places_below : (n : ℕ) (ps : List ℕ) → ps ≡ places d 0 n → All (λ p. p < n) ps
-  places_below n ps e =
-      subst (All (λ p. p < n)) (sym e)
-      (All-filter d (λ p. p < n) (range_with_len 0 n)
-      (λ k q h. let l : k < n = omega (arith, length-range_with_len 0 n) in let e = get_or-range_with_len 0 n k q l in omega arith))
+  pub places_below : (n : ℕ) → Below n (places d 0 n)
+  places_below n = below_after n 0 n (omega arith)
 
   pub length-places : (n : ℕ) → length (places d 0 n) ≤ n
   length-places n = omega (arith, length-filter d (range_with_len 0 n), count_by-le-length d (range_with_len 0 n), length-range_with_len 0 n)
 
-module _ {X : Type 0} (P : X → Type 0) (x : X) (xs ys : List X) (e : ys ≡ x ∷ xs) (all : All P ys) where
-  pub All-first : P x
-  All-first = let h : All P (x ∷ xs) = subst (All P) e all in h 0 x (omega arith)
+pub below_more : {p : ℕ} {ps qs : List ℕ} (n : ℕ) → qs ≡ p ∷ ps → Below n qs → (p < n) × Below n ps
+below_more n e h = subst (Below n) e h
 
-  pub All-others : All P xs
-  All-others = let h : All P (x ∷ xs) = subst (All P) e all in λ k q l. h (suc k) q (omega arith)
+-- the next place of a walk comes first, and then those after it
+pub next_first : (walk : Places) (r : Option ℕ) → ((identity : ℕ) → walk.shift ≡ identity % 6 → r ≡ next_place (among walk.what identity) walk.from (walk.end - walk.from))
+    → MatchOption r (places_left walk ≡ []) (λ p. places_left walk ≡ p ∷ places (among walk.what walk.shift) (p + 1) (walk.end - (p + 1)))
+next_first walk r h = rw (h walk.shift (omega (arith, walk.small))) (first (among walk.what walk.shift) (walk.end - walk.from) walk.from walk.end refl)
 
 module _ {X : Type 0} where
   -- things put on places, one after another
@@ -58,8 +62,8 @@ module _ {X : Type 0} where
   abbrev pub standing : List X → List ℕ → List X
   standing xs ps = filter_map (slice_get xs) ps
 
-  pub standing_first : (xs : List X) (p : ℕ) (ps qs : List ℕ) (x : X) → qs ≡ p ∷ ps → p < length xs → x ≡ get_or xs p x → standing xs qs ≡ x ∷ standing xs ps
-  standing_first xs p ps qs x e h f = ap (standing xs) e ∙ ap (λ o. cons_option o (standing xs ps)) (slice_get_read xs (length xs) p x refl h f)
+  pub standing_first : (xs : List X) (p : ℕ) (ps qs : List ℕ) (x : X) → qs ≡ p ∷ ps → Below (length xs) qs → x ≡ get_or xs p x → standing xs qs ≡ x ∷ standing xs ps
+  standing_first xs p ps qs x e h f = ap (standing xs) e ∙ ap (λ o. cons_option o (standing xs ps)) (slice_get_read xs (length xs) p x refl (below_more (length xs) e h).0 f)
 
   put_none : (ps : List ℕ) (xs : List X) → put_over xs ps [] ≡ xs
   put_none [] xs = refl
@@ -71,17 +75,7 @@ module _ {X : Type 0} where
     laid_after xs [] ts i e = refl
     laid_after xs (y ∷ ys) [] i e = sym (put_none (places d i (suc (length ys))) (xs ++ y ∷ ys))
     laid_after xs (y ∷ ys) (t ∷ ts) i e =
-        elim (d i) as (λ b. xs ++ cond b (t ∷ laid d (suc i) ys ts) (y ∷ laid d (suc i) ys (t ∷ ts))
-        ≡ put_over (xs ++ y ∷ ys) (cond b (i ∷ places d (i + 1) (length ys)) (places d (i + 1) (length ys))) (t ∷ ts)) [
-          | true ↦
-              rw (← add-one, e, set-append_seam)
-              (sym (append_assoc xs (t ∷ []) _) ∙ laid_after (xs ++ t ∷ []) ys ts (length xs + 1) (simp length-append)
-              ∙ ap (λ zs. put_over zs (places d (length xs + 1) (length ys)) ts) (append_assoc xs (t ∷ []) ys))
-          | false ↦
-              rw (← add-one)
-              (sym (append_assoc xs (y ∷ []) _) ∙ laid_after (xs ++ y ∷ []) ys (t ∷ ts) (i + 1) (simp length-append (omega arith))
-              ∙ ap (λ zs. put_over zs (places d (i + 1) (length ys)) (t ∷ ts)) (append_assoc xs (y ∷ []) ys))
-        ]
+        grind (arith, set-append_seam xs y ys t, append_assoc {A = X}, length-append {A = X}, laid_after (xs ++ t ∷ []) ys ts (suc i), laid_after (xs ++ y ∷ []) ys (t ∷ ts) (suc i))
 
     pub laid-put_over : (xs ts : List X) → laid d 0 xs ts ≡ put_over xs (places d 0 (length xs)) ts
     laid-put_over xs ts = laid_after [] xs ts 0 refl
@@ -90,15 +84,8 @@ module _ {X : Type 0} where
     unfolding taken
     taken_after xs [] i e = refl
     taken_after xs (y ∷ ys) i e =
-        let s : taken d (suc i) ys ≡ standing (xs ++ y ∷ ys) (places d (i + 1) (length ys)) =
-        rw (← add-one) (taken_after (xs ++ y ∷ []) ys (i + 1) (simp length-append (omega arith)) ∙ ap (λ zs. standing zs (places d (i + 1) (length ys))) (append_assoc xs (y ∷ []) ys)) in
-        let f : slice_get (xs ++ y ∷ ys) i ≡ Some y =
-        rw e (slice_get-get_or (xs ++ y ∷ ys) (length xs) y (simp length-append (omega arith)) ∙ ap Some (get_or-append_seam xs y ys y)) in
-        elim (d i) as (λ b. cond b (y ∷ taken d (suc i) ys) (taken d (suc i) ys)
-        ≡ standing (xs ++ y ∷ ys) (cond b (i ∷ places d (i + 1) (length ys)) (places d (i + 1) (length ys)))) [
-          | true ↦ rw f (ap (λ zs. y ∷ zs) s)
-          | false ↦ s
-        ]
+        let is = slice_get_read (xs ++ y ∷ ys) (length (xs ++ y ∷ ys)) (length xs) y refl (simp length-append (omega arith)) (sym (get_or-append_seam xs y ys y)) in
+        grind (arith, is, append_assoc {A = X}, length-append {A = X}, taken_after (xs ++ y ∷ []) ys (suc i))
 
     pub taken-standing : (xs : List X) → taken d 0 xs ≡ standing xs (places d 0 (length xs))
     taken-standing xs = taken_after [] xs 0 refl

@@ -3,16 +3,12 @@ use Rattle.std.proofs.Common.{◌≡◌, ℕ, ◌+◌, ◌<◌, ◌≤◌, Bool,
 use Rattle.std.specs.Option.{option_map}
 use Rattle.point.specs.Kinds.{Kind}
 use Rattle.grid.specs.Pairs.{bit, joined, bits_of}
-use Rattle.grid.proofs.Chosen.{standing, standing_first}
+use Rattle.grid.proofs.Chosen.{Below, standing, standing_first}
 use Rattle.grid.proofs.Overwrites.{over_from, over_more, over_all, over_done}
 
-mapped_pair : (f : List ℕ → List ℕ) (a b : Bool) (o : Option (List ℕ)) → option_map f (joined (Some (a, b)) o) ≡ option_map (λ bs. f (bit a ∷ bit b ∷ bs)) o
-mapped_pair f a b None = refl
-mapped_pair f a b (Some bs) = refl
-
-mapped_same : (f g : List ℕ → List ℕ) → ((bs : List ℕ) → f bs ≡ g bs) → (o : Option (List ℕ)) → option_map f o ≡ option_map g o
-mapped_same f g e None = refl
-mapped_same f g e (Some bs) = ap Some (e bs)
+mapped_pair : (f h : List ℕ → List ℕ) (a b : Bool) (o : Option (List ℕ)) → ((bs : List ℕ) → h (bit a ∷ bit b ∷ bs) ≡ f bs) → option_map h (joined (Some (a, b)) o) ≡ option_map f o
+mapped_pair f h a b None e = refl
+mapped_pair f h a b (Some bs) e = ap Some (e bs)
 
 two_more : (n a b : ℕ) (ys bs : List ℕ) → n + 1 < length ys → over_from n ys (a ∷ b ∷ bs) ≡ over_from (n + 2) (set (set ys n a) (n + 1) b) bs
 two_more n a b ys bs h =
@@ -21,7 +17,7 @@ two_more n a b ys bs h =
     ∙ ap (λ m. over_from m (set (set ys n a) (n + 1) b) bs) (omega arith)
 
 -- one turn: x stands on the place p, which is the next
-module _ {X : Type 0} (xs : List X) (p : ℕ) (ps qs : List ℕ) (e : qs ≡ p ∷ ps) (x : X) (h : p < length xs) (is : x ≡ get_or xs p x) where
+module _ {X : Type 0} (xs : List X) (p : ℕ) (ps qs : List ℕ) (e : qs ≡ p ∷ ps) (x : X) (h : Below (length xs) qs) (is : x ≡ get_or xs p x) where
   pub fetch_more : (n : ℕ) (ys zs : List X) → n < length ys → over_from n ys (standing xs qs) ≡ zs → over_from (n + 1) (set ys n x) (standing xs ps) ≡ zs
   fetch_more n ys zs l r = sym (over_more n x ys (standing xs ps) l) ∙ sym (ap (over_from n ys) (standing_first xs p ps qs x e h is)) ∙ r
 
@@ -32,19 +28,18 @@ module _ {X : Type 0} (xs : List X) (p : ℕ) (ps qs : List ℕ) (e : qs ≡ p �
     unfolding bits_of
     next_bits = ap (bits_of K) (standing_first xs p ps qs x e h is) ∙ ap (λ o. joined o (bits_of K (standing xs ps))) (sym pair)
 
-    step : (a b : Bool) → q ≡ Some (a, b) → option_map (λ bs. over_from n ys (bit a ∷ bit b ∷ bs)) (bits_of K (standing xs ps)) ≡ zs
-    step a b f =
-        sym (ap (option_map (over_from n ys)) (next_bits ∙ ap (λ o. joined o (bits_of K (standing xs ps))) f) ∙ mapped_pair (over_from n ys) a b (bits_of K (standing xs ps))) ∙ inv
+    -- its bits are read, and f is what the buffer comes to
+    step : (a b : Bool) (f : List ℕ → List ℕ) → q ≡ Some (a, b) → ((bs : List ℕ) → over_from n ys (bit a ∷ bit b ∷ bs) ≡ f bs) → option_map f (bits_of K (standing xs ps)) ≡ zs
+    step a b f is g =
+        sym (ap (option_map (over_from n ys)) (next_bits ∙ ap (λ o. joined o (bits_of K (standing xs ps))) is) ∙ mapped_pair f (over_from n ys) a b (bits_of K (standing xs ps)) g) ∙ inv
 
-    -- its bits are written
     pub read_more : (a b : Bool) (m : ℕ) → q ≡ Some (a, b) → m ≡ n + 2 → n + 1 < length ys
         → option_map (over_from m (set (set ys n (bit a)) (n + 1) (bit b))) (bits_of K (standing xs ps)) ≡ zs
-    read_more a b m f k room = rw k (sym (mapped_same _ _ (λ bs. two_more n (bit a) (bit b) ys bs room) (bits_of K (standing xs ps))) ∙ step a b f)
+    read_more a b m f k room = rw k (step a b _ f (λ bs. two_more n (bit a) (bit b) ys bs room))
 
     -- the buffer is full
     pub read_full : (a b : Bool) (m : ℕ) → q ≡ Some (a, b) → m ≡ n + 2 → length ys ≤ n → option_map (over_from m ys) (bits_of K (standing xs ps)) ≡ zs
-    read_full a b m f k full =
-        sym (mapped_same _ _ (λ bs. over_all n ys (bit a ∷ bit b ∷ bs) full ∙ sym (over_all m ys bs (omega arith))) (bits_of K (standing xs ps))) ∙ step a b f
+    read_full a b m f k full = step a b _ f (λ bs. over_all n ys (bit a ∷ bit b ∷ bs) full ∙ sym (over_all m ys bs (omega arith)))
 
     -- it is no pair
     pub read_none : q ≡ None → None ≡ zs

@@ -5,5 +5,4 @@ pub mod Bits
 pub mod Elements
 pub mod Carried
 pub mod Figures
-mod Blanks
 mod Fetched

@@ -6,6 +6,7 @@ use calendar::identity::Identity;
 use gold::Gold;
 
 // The 16 bits of a subframe's reference elements, in rising place.
+#[tactic(auto, unfolding(crate::specs::References::reference_bits))]
 pub fn reference_bits(identity: Identity, subframe: u8) -> [u8; 16]
     ensures { result ≡ reference_bits (number_of identity) subframe }
 {

@@ -15,6 +15,7 @@ use calendar::identity::Identity;
 use point::Point;
 
 // Writes the grid of a closed subframe: blanks only.
+#[tactic(auto, unfolding(crate::specs::Grids::vacant))]
 pub fn write_closed<P: Point>(grid: &mut [P])
     ensures { grid.new ≡ vacant P.Point.kind (length grid.old) }
 {
@@ -25,6 +26,7 @@ pub fn write_closed<P: Point>(grid: &mut [P])
 }
 
 // Writes the grid of an open subframe without data: the reference points, and blanks.
+#[tactic(auto, unfolding(crate::specs::Grids::marked))]
 pub fn write_idle<P: Point>(grid: &mut [P], identity: Identity, subframe: u8)
     ensures { grid.new ≡ marked P.Point.kind (length grid.old) (number_of identity) subframe }
 {
@@ -34,6 +36,7 @@ pub fn write_idle<P: Point>(grid: &mut [P], identity: Identity, subframe: u8)
 }
 
 // Writes the grid of a data subframe: the reference points, and the bits on the data elements.
+#[tactic(auto, using(crate::proofs::Carried::meets_rules), unfolding(crate::specs::Grids::carrying))]
 pub fn write_data<P: Point>(grid: &mut [P], identity: Identity, subframe: u8, bits: &[u8])
     ensures after { grid.new ≡ carrying P.Point.kind (length grid.old) (number_of identity) subframe bits.now }
     ensures law { MeetsRules P.Point.kind }

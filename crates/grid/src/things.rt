@@ -10,6 +10,7 @@ use crate::purpose::Purpose;
 use calendar::identity::Identity;
 
 // Puts the things, in their order, on the elements of one purpose in rising place, as far as they go. Every other element stays.
+#[tactic(auto, using(crate::proofs::Walks::keeps_things))]
 pub fn put<T: Copy>(grid: &mut [T], identity: Identity, what: Purpose, things: &[T])
     ensures after { grid.new ≡ laid (among what (number_of identity)) 0 grid.old things.now }
     ensures law { KeepsThings T }

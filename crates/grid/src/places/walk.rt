@@ -11,6 +11,7 @@ use crate::shift::Shift;
 use calendar::identity::Identity;
 
 impl Places {
+    #[tactic(auto, using(crate::proofs::Elements::among_remainder))]
     pub(crate) fn of(identity: Identity, what: Purpose, end: usize) -> Places
         ensures { places_left result ≡ places (among what (number_of identity)) 0 end }
     {

@@ -1,10 +1,10 @@
-use Rattle.std.proofs.Common.{rules, ◌≡◌, ◌<◌, length, sym, ap, ap₂, ◌∙◌, inl, inr, arith, length-set}
+use Rattle.std.proofs.Common.{rules, ◌<◌, length, sym, ap, ap₂, ◌∙◌, inl, inr, arith, length-set}
 use Rattle.std.specs.Iterator.Adapters.{zip_first, zip_second}
 use Rattle.calendar.specs.Identities.{number_of}
 use Rattle.grid.specs.Purposes.{among}
 use Rattle.grid.specs.Places.{places_left}
-use Rattle.grid.specs.Walk.{places, overwritten}
-use Rattle.grid.proofs.Chosen.{places_below, All-first, All-others, standing, taken-standing}
+use Rattle.grid.specs.Walk.{overwritten}
+use Rattle.grid.proofs.Chosen.{places_below, below_more, standing, taken-standing}
 use Rattle.grid.proofs.Overwrites.{over_from, over_all, over_done}
 use Rattle.grid.proofs.Fetched.{fetch_more}
 use Rattle.grid.proofs.things.fetch.Goals as goal
@@ -17,26 +17,25 @@ loop-i-init g c =
     let is = c.into_iter-i-iterator.ensures.into_iter_gives in
     let r = ap zip_first is ∙ c.zip-i-items.ensures.first in
     let e = ap (λ z. places_left (zip_second z)) is ∙ ap places_left c.zip-i-items.ensures.second ∙ c.of.ensures in (
-      places_below d (length xs) _ e,
+      rw e (places_below d (length xs)),
       ap (λ s. s.end) r,
       ap₂ (λ s ps. over_from s.start ys (standing xs ps)) r e ∙ ap (overwritten ys) (sym (taken-standing d xs)),
     )
 
 pub offset_bounds-grid-place : goal.offset_bounds-grid-place
 offset_bounds-grid-place g c =
-    let h = All-first (λ p. p < length c.args.grid.now) c.in-Some.place _ _ c.in-Some.ensures.steps.1 c.loop-i.invariant.0 in search rules
+    let h = below_more (length c.args.grid.now) c.in-Some.ensures.steps.1 c.loop-i.invariant.0 in search rules
 
 pub bounds-grid-place : goal.bounds-grid-place
-bounds-grid-place g c = All-first (λ p. p < length c.args.grid.now) c.in-Some.place _ _ c.in-Some.ensures.steps.1 c.loop-i.invariant.0
+bounds-grid-place g c = (below_more (length c.args.grid.now) c.in-Some.ensures.steps.1 c.loop-i.invariant.0).0
 
 pub loop-i-preserved : goal.loop-i-preserved
 loop-i-preserved g c =
     let s = c.in-Some.ensures.steps in
-    let xs = c.args.grid.now in
-    let h = All-first (λ p. p < length xs) c.in-Some.place _ _ s.1 c.loop-i.invariant.0 in (
-      All-others (λ p. p < length xs) c.in-Some.place _ _ s.1 c.loop-i.invariant.0,
+    let xs = c.args.grid.now in (
+      (below_more (length xs) s.1 c.loop-i.invariant.0).1,
       s.0.0 ∙ c.loop-i.invariant.1 ∙ sym (length-set c.loop-i.out c.in-Some.i c.index-grid-place.result),
-      rw (s.0.1.2, s.0.1.1) (fetch_more xs c.in-Some.place _ _ s.1 c.index-grid-place.result h c.index-grid-place.is _ c.loop-i.out _ (omega (arith, s.0.1.0, c.loop-i.invariant.1)) c.loop-i.invariant.2),
+      rw (s.0.1.2, s.0.1.1) (fetch_more xs c.in-Some.place _ _ s.1 c.index-grid-place.result c.loop-i.invariant.0 c.index-grid-place.is _ c.loop-i.out _ (omega (arith, s.0.1.0, c.loop-i.invariant.1)) c.loop-i.invariant.2),
     )
 
 pub returns : goal.returns

@@ -1,11 +1,10 @@
 use Rattle.std.proofs.Common.{◌≡◌, ◌<◌, length}
-use Rattle.std.specs.List.{All}
 use Rattle.std.specs.Iterator.Adapters.{zip_first, zip_second}
 use Rattle.calendar.specs.Identities.{number_of}
 use Rattle.grid.specs.Purposes.{among}
 use Rattle.grid.specs.Places.{places_left}
 use Rattle.grid.specs.Walk.{taken, overwritten}
-use Rattle.grid.proofs.Chosen.{standing}
+use Rattle.grid.proofs.Chosen.{Below, standing}
 use Rattle.grid.proofs.Overwrites.{over_from}
 use Rattle.grid.proofs.things.fetch.Given as goal
 
@@ -13,5 +12,5 @@ abbrev pub invariant-loop-i : goal.invariant-loop-i
 invariant-loop-i g l =
     let left = places_left (zip_second l.i-iterator) in
     let range = zip_first l.i-iterator in
-    All (λ p. p < length l.grid) left × (range.end ≡ length l.out)
+    Below (length l.grid) left × (range.end ≡ length l.out)
     × (over_from range.start l.out (standing l.grid left) ≡ overwritten l.initial.out (taken (among l.fn.what (number_of l.fn.identity)) 0 l.grid))

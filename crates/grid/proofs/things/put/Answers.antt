@@ -10,6 +10,3 @@ pub returns-clause-after : goal.returns-clause-after
 returns-clause-after g c =
     let e : iter_rest (copied_source c.copied.result) ≡ c.args.things.now = ap iter_rest c.copied.ensures.source ∙ c.iter.ensures.rest in
     c.lay.ensures c.args.things.now (subst (AlwaysYields (copies fronts) (λ t. t) c.copied.result) e (Copied-slice c.copied.result))
-
-pub returns-clause-law : goal.returns-clause-law
-returns-clause-law g c = keeps_things _
