@@ -1,5 +1,5 @@
 -- What stands on a written grid: its length, its reference elements, and the bits that are read back.
-use Rattle.std.proofs.Common.{◌≡◌, ℕ, zero, suc, ◌+◌, ◌*◌, ◌/◌, ◌%◌, ◌<◌, true, false, List, length, get_or, replicate, Some, None, Option, sym, refl, ap, ◌∙◌, mod-lt, arith}
+use Rattle.std.proofs.Common.{◌≡◌, ℕ, zero, suc, ◌+◌, ◌*◌, ◌/◌, ◌%◌, ◌<◌, false, List, length, get_or, replicate, Some, None, Option, sym, refl, ap, ◌∙◌, mod-lt, arith}
 use Rattle.std.specs.Option.{option_map}
 use Rattle.std.proofs.lemmas.List.{length-replicate}
 use Rattle.point.specs.Kinds.{Kind, LawfulKind}

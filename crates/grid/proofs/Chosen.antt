@@ -6,7 +6,7 @@ use Rattle.std.specs.Iterator.{AlwaysYields}
 use Rattle.std.proofs.Math.Seq.{set-append_seam, get_or-append_seam}
 use Rattle.std.proofs.lemmas.Option.{slice_get_read}
 use Rattle.std.proofs.lemmas.List.Sums.{length-filter, count_by-le-length}
-use Rattle.std.proofs.lemmas.List.FromFn.{length-range_with_len, get_or-range_with_len}
+use Rattle.std.proofs.lemmas.List.FromFn.{length-range_with_len}
 use Rattle.grid.specs.declared.places.Places.{Places}
 use Rattle.grid.specs.Purposes.{among}
 use Rattle.grid.specs.Places.{places_left}

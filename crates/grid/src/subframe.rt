@@ -1,6 +1,5 @@
 ghost use Rattle.std.specs.Prelude.{◌≡◌, length, slice_index};
 ghost use Rattle.std.specs.Option.{option_map};
-ghost use Rattle.calendar.specs.Identities.{number_of};
 ghost use Rattle.grid.specs.Walk.{laid};
 ghost use Rattle.grid.specs.Purposes.{among};
 ghost use Rattle.grid.specs.Pairs.{is_one, points};
@@ -28,7 +27,7 @@ pub fn write_closed<P: Point>(grid: &mut [P])
 // Writes the grid of an open subframe without data: the reference points, and blanks.
 #[tactic(auto, unfolding(crate::specs::Grids::marked))]
 pub fn write_idle<P: Point>(grid: &mut [P], identity: Identity, subframe: u8)
-    ensures { grid.new ≡ marked P.Point.kind (length grid.old) (number_of identity) subframe }
+    ensures { grid.new ≡ marked P.Point.kind (length grid.old) identity subframe }
 {
     write_closed(grid);
     let bits = reference_bits(identity, subframe);
@@ -38,7 +37,7 @@ pub fn write_idle<P: Point>(grid: &mut [P], identity: Identity, subframe: u8)
 // Writes the grid of a data subframe: the reference points, and the bits on the data elements.
 #[tactic(auto, using(crate::proofs::Carried::meets_rules), unfolding(crate::specs::Grids::carrying))]
 pub fn write_data<P: Point>(grid: &mut [P], identity: Identity, subframe: u8, bits: &[u8])
-    ensures after { grid.new ≡ carrying P.Point.kind (length grid.old) (number_of identity) subframe bits.now }
+    ensures after { grid.new ≡ carrying P.Point.kind (length grid.old) identity subframe bits.now }
     ensures law { MeetsRules P.Point.kind }
 {
     write_idle(grid, identity, subframe);
@@ -47,8 +46,8 @@ pub fn write_data<P: Point>(grid: &mut [P], identity: Identity, subframe: u8, bi
 
 // Reads the bits of the data elements, 320 where the grid has 168 points. None where one of them is no pair.
 pub fn read_data<P: Point>(grid: &[P], identity: Identity) -> Option<[u8; 320]>
-    ensures value { result ≡ option_map in_320 (aired_bits P.Point.kind (number_of identity) grid.now) }
-    ensures whole { length grid.now ≡ 168 → result ≡ aired_bits P.Point.kind (number_of identity) grid.now }
+    ensures value { result ≡ option_map in_320 (aired_bits P.Point.kind identity grid.now) }
+    ensures whole { length grid.now ≡ 168 → result ≡ aired_bits P.Point.kind identity grid.now }
 {
     let mut bits = [0; 320];
     for (i, place) in Places::of(identity, Purpose::Data, grid.len()).enumerate() {
@@ -63,7 +62,7 @@ pub fn read_data<P: Point>(grid: &[P], identity: Identity) -> Option<[u8; 320]>
 
 // Puts each pair of bits as its point on the elements of one purpose in rising place, as far as they go.
 fn put_pairs<P: Point>(grid: &mut [P], identity: Identity, what: Purpose, bits: &[u8])
-    ensures { grid.new ≡ laid (among what (number_of identity)) 0 grid.old (points P.Point.kind bits.now) }
+    ensures { grid.new ≡ laid (among what identity) 0 grid.old (points P.Point.kind bits.now) }
 {
     let (pairs, _) = bits.as_chunks::<2>();
     lay(

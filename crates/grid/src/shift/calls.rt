@@ -1,5 +1,4 @@
 ghost use Rattle.std.specs.Prelude.{◌≡◌, ℕ, ◌%◌};
-ghost use Rattle.calendar.specs.Identities.{number_of};
 ghost use Rattle.grid.specs.Purposes.{purpose_of};
 
 use crate::purpose::Purpose;
@@ -8,7 +7,7 @@ use calendar::identity::Identity;
 
 impl Shift {
     pub fn of(identity: Identity) -> Shift
-        ensures { result ≡ number_of identity % 6 }
+        ensures { result ≡ identity % 6 }
     {
         Shift {
             value: (identity.value() % 6) as u8,

@@ -1,7 +1,6 @@
-use Rattle.std.proofs.Common.{rules, ◌*◌, ◌<◌, length, replicate, sym, ap, ap₂, ◌∙◌, inl, refl, arith, length-set}
+use Rattle.std.proofs.Common.{rules, ◌*◌, length, replicate, sym, ap, ap₂, ◌∙◌, inl, refl, arith, length-set}
 use Rattle.std.specs.Option.{option_map}
 use Rattle.std.specs.Iterator.Adapters.{enumerate_source, enumerate_count}
-use Rattle.calendar.specs.Identities.{number_of}
 use Rattle.grid.specs.declared.purpose.Purpose.TheVariants.{Data}
 use Rattle.grid.specs.Purposes.{among}
 use Rattle.grid.specs.Places.{places_left}
@@ -17,7 +16,7 @@ pub loop-i-init : goal.loop-i-init
 unfolding aired_bits in_320
 loop-i-init g c =
     let K = g.P.Point.kind in
-    let d = among Data (number_of c.args.identity) in
+    let d = among Data c.args.identity in
     let xs = c.args.grid.now in
     let is = c.into_iter-i-iterator.ensures.into_iter_gives in
     let n = ap enumerate_count is ∙ c.enumerate-i-items.ensures.count in
@@ -41,7 +40,7 @@ returns-in_err-first g c =
     let s = c.in-Some.ensures.steps in
     let is = read_none xs c.in-Some.place _ _ s.0 c.index-grid-place.result c.loop-i.invariant.1 c.index-grid-place.is g.P.Point.kind c.pair.result c.pair.ensures _ c.loop-i.bits _ c.loop-i.invariant.3 c.in_err-first.was in
     let value = c.from_residual.ensures ∙ is in
-    record { value = value; whole = λ h. value ∙ aired_whole g.P.Point.kind (number_of c.args.identity) c.args.grid.now h }
+    record { value = value; whole = λ h. value ∙ aired_whole g.P.Point.kind c.args.identity c.args.grid.now h }
 
 pub loop-i-preserved-then-i-lt160 : goal.loop-i-preserved-then-i-lt160
 loop-i-preserved-then-i-lt160 g c =
@@ -68,6 +67,5 @@ loop-i-preserved g c =
 
 pub returns : goal.returns
 returns g c =
-    let id = number_of c.args.identity in
     let is = read_end g.P.Point.kind c.args.grid.now _ _ c.loop-i.bits _ c.in-None.ensures.steps.0.0 c.loop-i.invariant.3 in
-    record { value = is; whole = λ h. is ∙ aired_whole g.P.Point.kind id c.args.grid.now h }
+    record { value = is; whole = λ h. is ∙ aired_whole g.P.Point.kind c.args.identity c.args.grid.now h }

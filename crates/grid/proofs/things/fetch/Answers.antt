@@ -1,6 +1,5 @@
-use Rattle.std.proofs.Common.{rules, ◌<◌, length, sym, ap, ap₂, ◌∙◌, inl, inr, arith, length-set}
+use Rattle.std.proofs.Common.{rules, length, sym, ap, ap₂, ◌∙◌, inl, inr, arith, length-set}
 use Rattle.std.specs.Iterator.Adapters.{zip_first, zip_second}
-use Rattle.calendar.specs.Identities.{number_of}
 use Rattle.grid.specs.Purposes.{among}
 use Rattle.grid.specs.Places.{places_left}
 use Rattle.grid.specs.Walk.{overwritten}
@@ -11,7 +10,7 @@ use Rattle.grid.proofs.things.fetch.Goals as goal
 
 pub loop-i-init : goal.loop-i-init
 loop-i-init g c =
-    let d = among c.args.what (number_of c.args.identity) in
+    let d = among c.args.what c.args.identity in
     let xs = c.args.grid.now in
     let ys = c.args.out.now in
     let is = c.into_iter-i-iterator.ensures.into_iter_gives in

@@ -1,6 +1,5 @@
-use Rattle.std.proofs.Common.{rules, ◌≡◌, ◌<◌, length, ap, ◌∙◌, inl, inr, length-set}
+use Rattle.std.proofs.Common.{rules, ◌≡◌, length, ap, ◌∙◌, inl, inr, length-set}
 use Rattle.std.specs.Iterator.Adapters.{zip_first, zip_second}
-use Rattle.calendar.specs.Identities.{number_of}
 use Rattle.grid.specs.Purposes.{among}
 use Rattle.grid.specs.Places.{places_left}
 use Rattle.grid.specs.Walk.{places}
@@ -9,7 +8,7 @@ use Rattle.grid.proofs.things.lay.Goals as goal
 
 pub loop-place-init : goal.loop-place-init
 loop-place-init g c =
-    let d = among c.args.what (number_of c.args.identity) in
+    let d = among c.args.what c.args.identity in
     let it = c.into_iter-place-iterator.result in
     let n = length c.args.grid.now in
     let e : places_left (zip_first it) ≡ places d 0 n = ap (λ z. places_left (zip_first z)) c.into_iter-place-iterator.ensures.into_iter_gives ∙ ap places_left c.zip-place-items.ensures.first ∙ c.of.ensures in

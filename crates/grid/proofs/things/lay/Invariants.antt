@@ -1,7 +1,6 @@
-use Rattle.std.proofs.Common.{List, ◌<◌, length}
+use Rattle.std.proofs.Common.{List, length}
 use Rattle.std.specs.Iterator.{AlwaysYields}
 use Rattle.std.specs.Iterator.Adapters.{zip_first, zip_second}
-use Rattle.calendar.specs.Identities.{number_of}
 use Rattle.grid.specs.Purposes.{among}
 use Rattle.grid.specs.Places.{places_left}
 use Rattle.grid.specs.Walk.{laid}
@@ -14,4 +13,4 @@ invariant-loop-place g l =
     (goal.iterator-loop-place g).can_next l.place-iterator
     × Below (length l.grid) left
     × ((ts : List g.row.T.Denot) → AlwaysYields g.I.Iterator.next_gives (λ t. t) l.fn.things ts
-    → Lays g.I.Iterator.next_gives (zip_second l.place-iterator) left l.grid (laid (among l.fn.what (number_of l.fn.identity)) 0 l.initial.grid ts))
+    → Lays g.I.Iterator.next_gives (zip_second l.place-iterator) left l.grid (laid (among l.fn.what l.fn.identity) 0 l.initial.grid ts))

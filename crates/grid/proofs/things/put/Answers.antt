@@ -3,7 +3,6 @@ use Rattle.std.specs.Iterator.{AlwaysYields}
 use Rattle.std.specs.Iterator.Adapters.{copied_source}
 use Rattle.std.specs.Slice.Iter.{iter_rest}
 use Rattle.std.proofs.iter.Yields.{copies, fronts, Copied-slice}
-use Rattle.grid.proofs.Walks.{keeps_things}
 use Rattle.grid.proofs.things.put.Goals as goal
 
 pub returns-clause-after : goal.returns-clause-after
