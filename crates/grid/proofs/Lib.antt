@@ -1,5 +1,4 @@
-pub mod Next
-pub mod Steps
+pub mod Chosen
 pub mod Overwrites
 pub mod Walks
 pub mod Bits
@@ -8,4 +7,3 @@ pub mod Carried
 pub mod Figures
 mod Blanks
 mod Fetched
-mod Seeds

@@ -1,11 +1,9 @@
-use Rattle.std.proofs.Common.{arith}
-use Rattle.grid.proofs.Blanks.{blanks_more, blanks_all}
+use Rattle.std.proofs.Common.{rules, replicate, ap, ◌∙◌}
+use Rattle.grid.specs.Grids.{vacant}
+use Rattle.grid.proofs.Blanks.{filled}
 use Rattle.grid.proofs.subframe.write_closed.Goals as goal
 
-pub loop-element-preserved : goal.loop-element-preserved
-loop-element-preserved g c = blanks_more c.loop-element.grid c.loop-element.element-index c.blank-blank.result (omega arith) c.loop-element.invariant
-
 pub returns : goal.returns
+unfolding vacant
 returns g c =
-    blanks_all g.P.Point.kind c.loop-element.grid c.loop-element.element-index _ c.blank-blank.result (omega arith) (omega arith)
-    c.loop-element.invariant c.blank-blank.ensures
+    filled _ g.P.Point.kind.blank (λ f x j k. search rules) c.fill_with.new.self _ _ c.fill_with.ensures.ran.1 ∙ ap (λ n. replicate n g.P.Point.kind.blank) c.fill_with.ensures.len
