@@ -1,5 +1,5 @@
 -- A bit of each of three streams copied to another place of each, again and again. Assumes nothing.
-use Rattle.std.proofs.Common.{◌≡◌, ℕ, zero, suc, ◌+◌, ◌*◌, ◌<◌, ◌≢◌, List, length, get_or, set, sym, ◌∙◌, subst, one-mul, zero-add, zero-mul, arith, below_more}
+use Rattle.std.proofs.Common.{◌≡◌, ℕ, zero, suc, ◌+◌, ◌*◌, ◌<◌, ◌≤◌, ◌≢◌, List, length, get_or, set, sym, ◌∙◌, subst, one-mul, zero-add, zero-mul, arith, below_more}
 use Rattle.std.proofs.lemmas.List.{get_or-set_same, get_or-set_other, length-set}
 
 three : (P : ℕ → Type 0) → P 0 → P 1 → P 2 → (s : ℕ) → s < 3 → P s
@@ -27,7 +27,7 @@ module _ (d : ℕ) (xs : List ℕ) (p : ℕ) (ys : List ℕ) (k : ℕ) (low : k 
       (others (d + j) (omega arith) (omega arith) (omega arith))
       (others (2 * d + j) (omega arith) (omega arith) (omega arith))
 
-  moved_here : length ys ≡ 3 * d → (s : ℕ) → s < 3 → get_or (moved d xs p ys k) (s * d + k) 0 ≡ get_or xs (s * d + p) 0
+  moved_here : 3 * d ≤ length ys → (s : ℕ) → s < 3 → get_or (moved d xs p ys k) (s * d + k) 0 ≡ get_or xs (s * d + p) 0
   moved_here long =
       let one = set ys k (get_or xs p 0) in
       let two = set one (d + k) (get_or xs (d + p) 0) in
@@ -47,7 +47,7 @@ abbrev pub Copied : ℕ → (ℕ → ℕ) → (ℕ → ℕ) → List ℕ → Lis
 Copied d f g xs ys k = (s j : ℕ) → s < 3 → j < k → get_or ys (s * d + f j) 0 ≡ get_or xs (s * d + g j) 0
 
 pub copied_more : (d : ℕ) (f g : ℕ → ℕ) (xs ys : List ℕ) (k : ℕ) → ((j : ℕ) → j < d → f j < d)
-    → ((i j : ℕ) → i < d → j < d → f i ≡ f j → i ≡ j) → length ys ≡ 3 * d → k < d
+    → ((i j : ℕ) → i < d → j < d → f i ≡ f j → i ≡ j) → 3 * d ≤ length ys → k < d
     → Copied d f g xs ys k → Copied d f g xs (moved d xs (g k) ys (f k)) (k + 1)
 copied_more d f g xs ys k below once long h done s j hs =
     below_more (λ j. get_or (moved d xs (g k) ys (f k)) (s * d + f j) 0 ≡ get_or xs (s * d + g j) 0) k

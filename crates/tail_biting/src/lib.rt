@@ -39,7 +39,7 @@ impl Stage for TailBitingCode {
     ghost lawful = { λ _. coding_lawful };
 
     fn length(&self, n: usize, s: Setting) -> usize {
-        if n < SHORTEST || n > LONGEST || !s.in_range() {
+        if !(SHORTEST..=LONGEST).contains(&n) || !s.in_range() {
             return 0;
         }
         3 * n
