@@ -1,9 +1,9 @@
 -- Bits added in place, to a list or to parts of it. Assumes nothing.
-use Rattle.std.specs.Prelude.{◌≡◌, ℕ, zero, suc, ◌+◌, ◌-◌, ◌*◌, ◌<◌, ◌≤◌, List, [], ◌∷◌, ◌++◌, length, take, drop, bit_xor, slice_index, slice_set, refl}
+use Rattle.std.specs.Prelude.{◌≡◌, ℕ, zero, suc, ◌+◌, ◌<◌, ◌≤◌, List, [], ◌∷◌, ◌++◌, length, take, drop, bit_xor, slice_index, slice_set, refl}
 use Rattle.std.proofs.Common.{sym, ap, ◌∙◌, arith}
 use Rattle.std.specs.Int.Bits.{xor_zero_r}
 use borrow.Rule.Slice.PartMut.{put_mid}
-use Rattle.std.proofs.lemmas.List.{ext_get_or, get_or-replicate, take_more, take_all, length-take-le, length-append, length-replicate, append_assoc}
+use Rattle.std.proofs.lemmas.List.{take_more, length-take-le}
 use Rattle.stage.specs.Bits.{xor, zeros}
 use Rattle.stage.specs.Xors.{xor_assoc, xor_back, xor_more, xor_front, xor_middle, zeros-xor, length-xor, cons_same}
 
@@ -14,9 +14,6 @@ added_more xs ys bits k h room e =
     let l : length (take k bits) ≡ k = length-take-le k bits (omega arith) in
     let one = xor_more xs (take k bits) (slice_index bits k) (omega arith) in
     simp e (simp l at one) ∙ ap (xor xs) (sym (take_more bits k 0 h))
-
-pub added_all : (xs ys bits : List ℕ) (k : ℕ) → length bits ≤ k → ys ≡ xor xs (take k bits) → ys ≡ xor xs bits
-added_all xs ys bits k h e = e ∙ ap (xor xs) (take_all k bits h)
 
 -- bits added to the part `..k`
 pub added_front : (xs ys part : List ℕ) (k : ℕ) → length ys ≡ k → k ≤ length xs → part ≡ xor (take k xs) ys → part ++ drop k xs ≡ xor xs ys

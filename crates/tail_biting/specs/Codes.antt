@@ -121,34 +121,19 @@ undo_added w f g h n l f_is g_is h_is =
     (take_rest w (2 * n))
 
 -- the word of a block added to zeros
-module _ (n : ℕ) (work side p z r : List ℕ) (room : 3 * n ≤ length work) (p_is : p ≡ take n work) (z_is : z ≡ zeros (length work))
-    (r_is : r ≡ xor (take (3 * n) z) (coded (take n (p ++ drop n side)))) where
-  copied_long : length (take n work) ≡ n
-  copied_long = length-take-le n work (omega arith)
-
-  new_long : length (coded (take n work)) ≡ 3 * n
-  new_long = omega (arith, length-coded (take n work), copied_long)
-
-  copied : take n (p ++ drop n side) ≡ take n work
-  copied = take_at p (drop n side) n (ap length p_is ∙ copied_long) ∙ p_is
-
-  zeroed : take (3 * n) z ≡ zeros (3 * n)
-  zeroed = ap (take (3 * n)) z_is ∙ take-replicate (3 * n) (length work) 0 room
-
-  new_word : r ≡ coded (take n work)
-  new_word = r_is ∙ ap₂ (λ x y. xor x (coded y)) zeroed copied ∙ zeros-xor (3 * n) (coded (take n work)) (omega (arith, new_long))
-
-  past_word : drop (3 * n) z ≡ zeros (length work - length (coded (take n work)))
-  past_word =
-      ap (drop (3 * n)) z_is ∙ drop-replicate (3 * n) (length work) 0 ∙ ap (λ k. zeros (length work - k)) (sym new_long)
-
-  pub encoded : r ++ drop (3 * n) z ≡ padded (coded (take n work)) (length work)
-  encoded = ap₂ (λ x y. x ++ y) new_word past_word
+pub encoded : (n : ℕ) (work p z r : List ℕ) → 3 * n ≤ length work → p ≡ take n work → z ≡ zeros (length work)
+    → r ≡ xor (take (3 * n) z) (coded p) → r ++ drop (3 * n) z ≡ padded (coded (take n work)) (length work)
+encoded n work p z r room p_is z_is r_is =
+    let word = coded (take n work) in
+    let long : length word ≡ 3 * n = omega (arith, length-coded (take n work), length-take-le n work (omega arith)) in
+    let zeroed : take (3 * n) z ≡ zeros (3 * n) = ap (take (3 * n)) z_is ∙ take-replicate (3 * n) (length work) 0 room in
+    let new : r ≡ word = r_is ∙ ap₂ (λ x y. xor x (coded y)) zeroed p_is ∙ zeros-xor (3 * n) word (omega arith) in
+    ap₂ (λ x y. x ++ y) new
+    (ap (drop (3 * n)) z_is ∙ drop-replicate (3 * n) (length work) 0 ∙ ap (λ k. zeros (length work - k)) (sym long))
 
 -- the word of the block that was found, added to the word
-module _ (n : ℕ) (work side s r : List ℕ) (room : 3 * n ≤ length work) (side_room : n ≤ length side)
-    (s_is : s ≡ uncoded (length (take n side)) (take (3 * n) work))
-    (r_is : r ≡ xor (take (3 * n) work) (coded (take n (s ++ drop n side)))) where
+module _ (n m : ℕ) (work s r : List ℕ) (room : 3 * n ≤ length work) (m_is : m ≡ n) (s_is : s ≡ uncoded m (take (3 * n) work))
+    (r_is : r ≡ xor (take (3 * n) work) (coded s)) (z : Bool) (z_is : IsTrue z ↔ (r ≡ zeros (length r))) where
   abbrev word : List ℕ
   word = take (3 * n) work
 
@@ -161,48 +146,38 @@ module _ (n : ℕ) (work side s r : List ℕ) (room : 3 * n ≤ length work) (si
   block_long : length block ≡ n
   block_long = length-uncoded n word word_long
 
-  coded_long : length (coded block) ≡ 3 * n
-  coded_long = omega (arith, length-coded block, block_long)
+  same_long : length word ≡ length (coded block)
+  same_long = omega (arith, word_long, length-coded block, block_long)
 
-  found : take n (s ++ drop n side) ≡ block
-  found =
-      let is : s ≡ block = s_is ∙ ap (λ (k : ℕ). uncoded k word) (length-take-le n side side_room) in
-      take_at s (drop n side) n (ap length is ∙ block_long) ∙ is
+  found : s ≡ block
+  found = s_is ∙ ap (λ k. uncoded k word) m_is
 
   r_sum : r ≡ xor word (coded block)
-  r_sum = r_is ∙ ap (λ (x : List ℕ). xor word (coded x)) found
+  r_sum = r_is ∙ ap (λ x. xor word (coded x)) found
 
-  r_long : length r ≡ 3 * n
-  r_long = ap length r_sum ∙ length_xor_same word (coded block) (word_long ∙ sym coded_long) ∙ word_long
-
-  left : take (3 * n) (r ++ drop (3 * n) work) ≡ r
-  left = take_at r (drop (3 * n) work) (3 * n) r_long
+  r_long : length r ≡ length word
+  r_long = ap length r_sum ∙ length_xor_same word (coded block) same_long
 
   work_long : length (r ++ drop (3 * n) work) ≡ length work
-  work_long = omega (arith, length-append r (drop (3 * n) work), length-drop (3 * n) work, r_long)
+  work_long = omega (arith, length-append r (drop (3 * n) work), length-drop (3 * n) work, r_long, word_long)
 
-  module _ (z : Bool)
-      (z_is : IsTrue z ↔ (take (3 * n) (r ++ drop (3 * n) work) ≡ zeros (length (take (3 * n) (r ++ drop (3 * n) work))))) where
-    -- nothing is left of the word: the block takes its place
-    pub decoded : z ≡ true → (p w : List ℕ) → p ≡ take n (s ++ drop n side)
-        → w ≡ padded (take n (p ++ drop n (r ++ drop (3 * n) work))) (length (p ++ drop n (r ++ drop (3 * n) work)))
-        → (coded block ≡ word) × (w ≡ padded block (length work))
-    decoded e p w p_is w_is = (
-      xor_none word (coded block) (word_long ∙ sym coded_long)
-          (sym r_sum ∙ sym left ∙ z_is.0 e ∙ ap (λ (x : List ℕ). zeros (length x)) left ∙ ap zeros (r_long ∙ sym word_long)),
-      front_cleared (r ++ drop (3 * n) work) p w n n refl (ap length (p_is ∙ found) ∙ block_long) (omega (arith, work_long)) w_is
-          ∙ ap₂ padded (p_is ∙ found) work_long,
-    )
+  -- nothing is left of the word: the block takes its place
+  pub decoded : z ≡ true → (p w : List ℕ) → p ≡ s
+      → w ≡ padded (take n (p ++ drop n (r ++ drop (3 * n) work))) (length (p ++ drop n (r ++ drop (3 * n) work)))
+      → (coded block ≡ word) × (w ≡ padded block (length work))
+  decoded e p w p_is w_is = (
+    xor_none word (coded block) same_long (sym r_sum ∙ z_is.0 e ∙ ap zeros r_long),
+    front_cleared (r ++ drop (3 * n) work) p w n n refl (ap length (p_is ∙ found) ∙ block_long) (omega (arith, work_long)) w_is
+        ∙ ap₂ padded (p_is ∙ found) work_long,
+  )
 
-    -- something is left: what was added is added again
-    pub not_decoded : z ≡ false → (q w : List ℕ) → q ≡ xor (take (3 * n) (r ++ drop (3 * n) work)) (coded (take n (s ++ drop n side)))
-        → w ≡ padded (take (3 * n) (q ++ drop (3 * n) (r ++ drop (3 * n) work))) (length (q ++ drop (3 * n) (r ++ drop (3 * n) work)))
-        → (coded block ≢ word) × (w ≡ padded word (length work))
-    not_decoded e q w q_is w_is =
-        let back : q ≡ word =
-        q_is ∙ ap₂ (λ x y. xor x (coded y)) (left ∙ r_sum) found ∙ xor_back word (coded block) (omega (arith, coded_long, word_long)) in (
-          (λ same. false≢true (sym e ∙ z_is.1 (left ∙ r_sum ∙ ap (xor word) same ∙ xor_self word
-              ∙ ap zeros (word_long ∙ sym r_long ∙ sym (ap length left))))),
-          front_cleared (r ++ drop (3 * n) work) q w (3 * n) (3 * n) refl (ap length back ∙ word_long) (omega (arith, work_long)) w_is
-              ∙ ap₂ padded back work_long,
-        )
+  -- something is left: what was added is added again
+  pub not_decoded : z ≡ false → (q w : List ℕ) → q ≡ xor r (coded s)
+      → w ≡ padded (take (3 * n) (q ++ drop (3 * n) work)) (length (q ++ drop (3 * n) work))
+      → (coded block ≢ word) × (w ≡ padded word (length work))
+  not_decoded e q w q_is w_is =
+      let back : q ≡ word =
+      q_is ∙ ap₂ (λ x y. xor x (coded y)) r_sum found ∙ xor_back word (coded block) (omega (arith, same_long)) in (
+        (λ same. false≢true (sym e ∙ z_is.1 (r_sum ∙ ap (xor word) same ∙ xor_self word ∙ ap zeros (sym r_long)))),
+        front_cleared work q w (3 * n) (3 * n) refl (ap length back ∙ word_long) (omega arith) w_is ∙ ap (λ x. padded x (length work)) back,
+      )

@@ -86,9 +86,10 @@ fn encode(work: &mut [u8], side: &mut [u8], n: usize)
     requires side_room { n ≤ length side.old }
     ensures { work.new ≡ padded (coded (take n work.old)) (length work.old) }
 {
-    side[..n].copy_from_slice(&work[..n]);
+    let block = &mut side[..n];
+    block.copy_from_slice(&work[..n]);
     work.fill(0);
-    add_word(&side[..n], &mut work[..3 * n]);
+    add_word(block, &mut work[..3 * n]);
 }
 
 // Replaces the word in the first 3n bytes of `work` by its block, and zeroes the rest. Where no block
@@ -103,15 +104,17 @@ fn decode(work: &mut [u8], side: &mut [u8], n: usize) -> Result<(), StageFault>
     ensures lacking { OnErr result (coded (uncoded n (take (3 * n) work.old)) ≢ take (3 * n) work.old) }
     ensures word { OnErr result (work.new ≡ padded (take (3 * n) work.old) (length work.old)) }
 {
-    find_block(&work[..3 * n], &mut side[..n]);
-    add_word(&side[..n], &mut work[..3 * n]);
-    if !is_zero(&work[..3 * n]) {
+    let block = &mut side[..n];
+    let word = &mut work[..3 * n];
+    find_block(word, block);
+    add_word(block, word);
+    if !is_zero(word) {
         // The found block has another word: what was added is taken away.
-        add_word(&side[..n], &mut work[..3 * n]);
+        add_word(block, word);
         clear_from(work, 3 * n);
         return Err(StageFault::NoBlock);
     }
-    work[..n].copy_from_slice(&side[..n]);
+    work[..n].copy_from_slice(block);
     clear_from(work, n);
     Ok(())
 }

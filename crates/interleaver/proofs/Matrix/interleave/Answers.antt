@@ -4,9 +4,11 @@ use Rattle.interleaver.proofs.Matrix.interleave.Goals as goal
 
 pub loop-k-init : goal.loop-k-init
 loop-k-init c =
-    rw (c.into_iter-k-iterator.ensures.into_iter_gives, c.enumerate-k-items.ensures.source, c.enumerate-k-items.ensures.count)
-    ((tt, tt, inl (omega (arith, walk_long c.args.self.bits _ c.places.ensures))), tt,
-    walk_starts c.args.self.bits (λ j. j) (place c.args.self.bits) _ c.args.work.now _ c.places.ensures)
+    rw (c.into_iter-k-iterator.ensures.into_iter_gives, c.enumerate-k-items.ensures.source, c.enumerate-k-items.ensures.count) (
+      (tt, tt, inl (omega (arith, walk_long c.args.self.bits _ c.places.ensures))),
+      tt,
+      walk_starts c.args.self.bits (λ j. j) (place c.args.self.bits) _ c.args.work.now _ c.places.ensures,
+    )
 
 pub copy_bit-requires : goal.copy_bit-requires
 copy_bit-requires c =
@@ -14,9 +16,11 @@ copy_bit-requires c =
     record { source = omega arith; target = omega arith }
 
 pub loop-k-preserved : goal.loop-k-preserved
-loop-k-preserved c =
-    (c.in-Some.ensures.goes.keeps, tt,
-    rw c.copy_bit.ensures (read_more c.args.self.bits _ c.loop-k.work _ _ _ _ _ _ c.in-Some.ensures.steps (omega arith) c.loop-k.invariant.2))
+loop-k-preserved c = (
+  c.in-Some.ensures.goes.keeps,
+  tt,
+  rw c.copy_bit.ensures (read_more c.args.self.bits _ c.loop-k.work _ _ _ _ _ _ c.in-Some.ensures.steps (omega arith) c.loop-k.invariant.2),
+)
 
 pub returns : goal.returns
 returns c =
