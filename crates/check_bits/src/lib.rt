@@ -5,8 +5,6 @@ ghost use Rattle.stage.specs.Bits.{binary};
 ghost use Rattle.check_bits.specs.Checking.{checking, check_bits_of, taken_in, to_bits, CheckBitsStand};
 ghost use Rattle.check_bits.specs.Checks.{checking_lawful};
 
-use std::array;
-
 use stage::admission::{admit_back, admit_forward};
 use stage::buffers::clear_from;
 use stage::fault::StageFault;
@@ -56,7 +54,7 @@ impl Stage for CheckBits {
         let m = self.length(n, s);
         admit_forward(n, s, m, work, side)?;
         let _guard = Cleared { bytes: side };
-        let check = bits_of(remainder(&work[0..n]));
+        let check = check_of(&work[0..n]);
         work[n..m].copy_from_slice(&check);
         clear_from(work, m);
         Ok(m)
@@ -72,7 +70,7 @@ impl Stage for CheckBits {
         let m = self.length(n, s);
         admit_back(s, m, self.covers(n, s), work, side)?;
         let _guard = Cleared { bytes: side };
-        let check = bits_of(remainder(&work[0..n]));
+        let check = check_of(&work[0..n]);
         if work[n..m] != check[..] {
             clear_from(work, m);
             return Err(StageFault::NoBlock);
@@ -82,12 +80,16 @@ impl Stage for CheckBits {
     }
 }
 
-// The check bits of a block as a number, by a shift register that starts at 0.
-fn remainder(block: &[u8]) -> u32
+// The check bits of a block, by a shift register that starts at 0.
+fn check_of(block: &[u8]) -> [u8; CHECK]
     requires { binary block.now ≡ true }
-    ensures { to_bits 24 result ≡ check_bits_of block.now }
+    ensures { result ≡ check_bits_of block.now }
 {
-    block.iter().fold(0, |register, bit| shift_in(register, *bit))
+    bits_of(
+        block
+            .iter()
+            .fold(0, |register, bit| shift_in(register, *bit)),
+    )
 }
 
 // One bit into the register, whose lowest 24 bits count.
@@ -107,5 +109,9 @@ fn shift_in(register: u32, bit: u8) -> u32
 fn bits_of(number: u32) -> [u8; CHECK]
     ensures { result ≡ to_bits 24 number }
 {
-    array::from_fn(|i| ((number >> (23 - i)) & 1) as u8)
+    let mut bits = [0; CHECK];
+    for (i, bit) in bits.iter_mut().enumerate() {
+        *bit = ((number >> (23 - i)) & 1) as u8;
+    }
+    bits
 }
