@@ -54,7 +54,7 @@ impl Stage for CheckBits {
         let m = self.length(n, s);
         admit_forward(n, s, m, work, side)?;
         let _guard = Cleared { bytes: side };
-        let check = check_of(&work[0..n]);
+        let check = check_of(&work[..n]);
         work[n..m].copy_from_slice(&check);
         clear_from(work, m);
         Ok(m)
@@ -70,7 +70,7 @@ impl Stage for CheckBits {
         let m = self.length(n, s);
         admit_back(s, m, self.covers(n, s), work, side)?;
         let _guard = Cleared { bytes: side };
-        let check = check_of(&work[0..n]);
+        let check = check_of(&work[..n]);
         if work[n..m] != check[..] {
             clear_from(work, m);
             return Err(StageFault::NoBlock);
@@ -85,11 +85,8 @@ fn check_of(block: &[u8]) -> [u8; CHECK]
     requires { binary block.now ≡ true }
     ensures { result ≡ check_bits_of block.now }
 {
-    bits_of(
-        block
-            .iter()
-            .fold(0, |register, bit| shift_in(register, *bit)),
-    )
+    let register = block.iter().fold(0, |state, bit| shift_in(state, *bit));
+    bits_of(register)
 }
 
 // One bit into the register, whose lowest 24 bits count.
