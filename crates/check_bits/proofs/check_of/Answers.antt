@@ -11,4 +11,4 @@ returns c =
     c.bits_of.ensures
     ∙ fold_over fronts (λ y. y.now) _ Registered _
     (λ bits a x b f' j called. (registered_more bits a x.now b (search rules) j, search rules))
-    c.iter.result bits 0 c.fold.result (YieldsList-from_slice bits cc).runs registered_none c.fold.ensures.ran c.requires
+    c.iter.result bits 0 c.fold-register.result (YieldsList-from_slice bits cc).runs registered_none c.fold-register.ensures.ran c.requires
