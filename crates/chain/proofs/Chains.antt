@@ -5,7 +5,7 @@ use Rattle.std.proofs.lemmas.Bool.Decides.{nat_tests}
 use Rattle.stage.specs.Bits.{Bits, xor}
 use Rattle.stage.specs.Gather.{gathered}
 use Rattle.stage.specs.Meaning.{Meaning, Lawful, word, paired}
-use Rattle.stage.specs.Paired.{paired_lawful, word-paired}
+use Rattle.stage.specs.Paired.{word_bits, first_some, paired_lawful, word-paired}
 use Rattle.gold.specs.Sequence.{sequence}
 use Rattle.stage.specs.Ranges.{within}
 use Rattle.check_bits.specs.Checking.{checking, check_bits_of}
@@ -102,67 +102,54 @@ spread_lawful = paired_lawful interleaving_lawful sent_lawful
 guarded_lawful : Lawful guarded
 guarded_lawful = paired_lawful coding_lawful spread_lawful
 
--- the word of a pair, where the first stage's word length and word are known
-word_through : {a b : Meaning} → Lawful a → Lawful b → (n k e seed : ℕ) (x y : List ℕ) → a.size n e ≡ k → 0 < b.size k e → seed < 2 ^ 31 → Bits n x
-    → word a n e seed x ≡ y → word (paired a b) n e seed x ≡ word b k e seed y
-word_through {a} {b} la lb n k e seed x y size some seeded h is =
-    word-paired la lb n e seed x (subst (λ i. 0 < b.size i e) (sym size) some) seeded h ∙ ap₂ (λ i z. word b i e seed z) size is
+-- the word of a pair, from the first stage's word length and word and the second's word of that
+word_through : {a b : Meaning} → Lawful a → Lawful b → (n k e seed : ℕ) (x y z : List ℕ) → a.size n e ≡ k → 0 < b.size k e → seed < 2 ^ 31 → Bits n x
+    → word a n e seed x ≡ y → (Bits k y → word b k e seed y ≡ z) → word (paired a b) n e seed x ≡ z
+word_through {a} {b} la lb n k e seed x y z size some seeded h is next =
+    let pair_some : 0 < b.size (a.size n e) e = subst (λ i. 0 < b.size i e) (sym size) some in
+    let bits : Bits k y = rw (size, is) at (word_bits la n e seed (first_some la lb n e pair_some) seeded x h) in
+    word-paired la lb n e seed x pair_some seeded h ∙ ap₂ (λ i w. word b i e seed w) size is ∙ next bits
 
 module _ (n e seed : ℕ) (low : 0 < n) (high : n ≤ 2536) (e_low : 0 < e) (e_high : e ≤ 7680) (seeded : seed < 2 ^ 31) where
-  checked_bits : (b : List ℕ) → Bits n b → Bits (n + 24) (b ++ check_bits_of b)
-  checked_bits b h =
-      let s = check_size n e low high e_low e_high in
-      subst (λ k. Bits k (b ++ check_bits_of b)) s (checking_lawful.images n e b (omega arith) h)
+  -- an interleaved block, taken in a ring and scrambled
+  sent_of : List ℕ → List ℕ
+  sent_of x = xor (gathered (ring (3 * (n + 24)) e) x) (sequence seed e)
 
-  coded_bits : (x : List ℕ) → Bits (n + 24) x → Bits (3 * (n + 24)) (coded x)
-  coded_bits x h =
-      let s = code_size n e low high e_low e_high in
-      subst (λ k. Bits k (coded x)) s (coding_lawful.images (n + 24) e x (omega arith) h)
-
-  triple_third : triple (3 * (n + 24) / 3) ≡ triple (n + 24)
-  triple_third = ap triple (omega arith)
-
-  interleaved_bits : (x : List ℕ) → Bits (3 * (n + 24)) x → Bits (3 * (n + 24)) (gathered (triple (n + 24)) x)
-  interleaved_bits x h =
-      let s = interleave_size n e low high e_low e_high in
-      subst (λ k. Bits k (gathered (triple (n + 24)) x)) s
-      (rw triple_third at (interleaving_lawful.images (3 * (n + 24)) e x (omega arith) h))
-
-  sent_word : (x : List ℕ) → Bits (3 * (n + 24)) x
-      → word sent (3 * (n + 24)) e seed x ≡ xor (gathered (ring (3 * (n + 24)) e) x) (sequence seed e)
+  sent_word : (x : List ℕ) → Bits (3 * (n + 24)) x → word sent (3 * (n + 24)) e seed x ≡ sent_of x
+  unfolding sent_of
   sent_word x h =
       let s = select_size n e low high e_low e_high in
       let z = scramble_size n e low high e_low e_high in
-      word_through selecting_lawful scrambling_lawful (3 * (n + 24)) e e seed x (gathered (ring (3 * (n + 24)) e) x) s (omega arith) seeded h
-      (selected_word (3 * (n + 24)) e seed (omega arith) x h)
+      word_through selecting_lawful scrambling_lawful (3 * (n + 24)) e e seed x (gathered (ring (3 * (n + 24)) e) x) (sent_of x)
+      s (omega arith) seeded h (selected_word (3 * (n + 24)) e seed (omega arith) x h) (λ _. refl)
 
-  spread_word : (x : List ℕ) → Bits (3 * (n + 24)) x
-      → word spread (3 * (n + 24)) e seed x ≡ xor (gathered (ring (3 * (n + 24)) e) (gathered (triple (n + 24)) x)) (sequence seed e)
+  spread_word : (x : List ℕ) → Bits (3 * (n + 24)) x → word spread (3 * (n + 24)) e seed x ≡ sent_of (gathered (triple (n + 24)) x)
   spread_word x h =
       let s = interleave_size n e low high e_low e_high in
       let z = sent_size n e low high e_low e_high in
-      word_through interleaving_lawful sent_lawful (3 * (n + 24)) (3 * (n + 24)) e seed x (gathered (triple (n + 24)) x) s (omega (arith, z)) seeded h
-      (interleaved_word (3 * (n + 24)) e seed (omega arith) x h ∙ ap (λ ps. gathered ps x) triple_third)
-      ∙ sent_word (gathered (triple (n + 24)) x) (interleaved_bits x h)
+      let third : triple (3 * (n + 24) / 3) ≡ triple (n + 24) = ap triple (omega arith) in
+      let y = gathered (triple (n + 24)) x in
+      word_through interleaving_lawful sent_lawful (3 * (n + 24)) (3 * (n + 24)) e seed x y (sent_of y)
+      s (omega (arith, z)) seeded h
+      (interleaved_word (3 * (n + 24)) e seed (omega arith) x h ∙ ap (λ ps. gathered ps x) third) (sent_word y)
 
-  guarded_word : (x : List ℕ) → Bits (n + 24) x
-      → word guarded (n + 24) e seed x ≡ xor (gathered (ring (3 * (n + 24)) e) (gathered (triple (n + 24)) (coded x))) (sequence seed e)
+  guarded_word : (x : List ℕ) → Bits (n + 24) x → word guarded (n + 24) e seed x ≡ sent_of (gathered (triple (n + 24)) (coded x))
   guarded_word x h =
       let s = code_size n e low high e_low e_high in
       let z = spread_size n e low high e_low e_high in
-      word_through coding_lawful spread_lawful (n + 24) (3 * (n + 24)) e seed x (coded x) s (omega (arith, z)) seeded h
-      (coded-word (n + 24) e seed (omega arith) x h)
-      ∙ spread_word (coded x) (coded_bits x h)
+      word_through coding_lawful spread_lawful (n + 24) (3 * (n + 24)) e seed x (coded x) (sent_of (gathered (triple (n + 24)) (coded x)))
+      s (omega (arith, z)) seeded h (coded-word (n + 24) e seed (omega arith) x h) (spread_word (coded x))
 
   chained-word : (b : List ℕ) → Bits n b
       → word chained n e seed b
       ≡ xor (gathered (ring (3 * (n + 24)) e) (gathered (triple (n + 24)) (coded (b ++ check_bits_of b)))) (sequence seed e)
+  unfolding sent_of
   chained-word b h =
       let s = check_size n e low high e_low e_high in
       let z = guarded_size n e low high e_low e_high in
-      word_through checking_lawful guarded_lawful n (n + 24) e seed b (b ++ check_bits_of b) s (omega (arith, z)) seeded h
-      (checked_word n e seed (omega arith) b h)
-      ∙ guarded_word (b ++ check_bits_of b) (checked_bits b h)
+      let x = b ++ check_bits_of b in
+      word_through checking_lawful guarded_lawful n (n + 24) e seed b x (sent_of (gathered (triple (n + 24)) (coded x)))
+      s (omega (arith, z)) seeded h (checked_word n e seed (omega arith) b h) (guarded_word x)
 
 pub chain_stands : ChainStands
 unfolding ChainStands

@@ -62,7 +62,7 @@ module _ {a b : Meaning} (la : Lawful a) (lb : Lawful b) (n : ℕ) (s : Setting)
           let sz = lb.sized (a.size n s.output) s.output o.some in
           let lw : length w1 ≡ length work = left_work x w1 (a.size n s.output) xb.0 sz.1 acc.work_is in
           let ld : length d1 ≡ length side = left_side d1 acc.side_is in
-          let h3 : Forward b (a.size n s.output) s w1 d1 w2 d2 r = subst (λ j. Forward b j s w1 d1 w2 d2 r) k_is h2 in
+          let h3 : Forward b (a.size n s.output) s w1 d1 w2 d2 r = rw k_is at h2 in
           let tk : take (a.size n s.output) w1 ≡ x = ap (take (a.size n s.output)) acc.work_is ∙ take-padded x (a.size n s.output) (length work) xb.0 in
           let acc2 = forward_accepted (open_second_at w1 d1 lw ld) w2 d2 r (ap binary tk ∙ xb.1) h3 in
           let same : word b (a.size n s.output) s.output s.seed (take (a.size n s.output) w1) ≡ word (paired a b) n s.output s.seed (take n work)
@@ -82,13 +82,6 @@ module _ {a b : Meaning} (la : Lawful a) (lb : Lawful b) (n : ℕ) (s : Setting)
   -- the word in the work buffer
   unfoldable pub word_in : List ℕ
   word_in = take (b.size (a.size n s.output) s.output) work
-
-  length-word_in : length word_in ≡ b.size (a.size n s.output) s.output
-  unfolding word_in
-  length-word_in =
-      let sz = lb.sized (a.size n s.output) s.output o.some in
-      let room = open_work o in
-      length-take-le (b.size (a.size n s.output) s.output) work (omega (arith, sz, room))
 
   -- a block of the pair, by way of the first stage's word
   through : (x : List ℕ) → Bits n x
