@@ -83,6 +83,13 @@ module _ {a b : Meaning} (la : Lawful a) (lb : Lawful b) (n : ℕ) (s : Setting)
   unfoldable pub word_in : List ℕ
   word_in = take (b.size (a.size n s.output) s.output) work
 
+  length-word_in : length word_in ≡ b.size (a.size n s.output) s.output
+  unfolding word_in
+  length-word_in =
+      let sz = lb.sized (a.size n s.output) s.output o.some in
+      let room = open_work o in
+      length-take-le (b.size (a.size n s.output) s.output) work (omega (arith, sz, room))
+
   -- a block of the pair, by way of the first stage's word
   through : (x : List ℕ) → Bits n x
       → word b (a.size n s.output) s.output s.seed (word a n s.output s.seed x) ≡ word (paired a b) n s.output s.seed x
