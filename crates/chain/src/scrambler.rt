@@ -1,5 +1,5 @@
-ghost use Rattle.std.specs.Prelude.{◌≡◌, length};
-ghost use Rattle.stage.specs.Bits.{xor};
+ghost use Rattle.std.specs.Prelude.{◌≡◌, ◌≤◌, length, take};
+ghost use Rattle.stage.specs.Bits.{xor, zeros, padded};
 ghost use Rattle.gold.specs.Sequence.{sequence};
 ghost use Rattle.chain.specs.Scrambling.{scrambling};
 ghost use Rattle.chain.specs.Scrambles.{scrambling_lawful};
@@ -22,10 +22,7 @@ impl Stage for Scrambler {
     ghost lawful = { λ _. scrambling_lawful };
 
     fn length(&self, n: usize, s: Setting) -> usize {
-        if n > MOST_BITS || !s.in_range() {
-            return 0;
-        }
-        n
+        if n <= MOST_BITS && s.in_range() { n } else { 0 }
     }
 
     fn covers(&self, n: usize, s: Setting) -> bool {
@@ -40,9 +37,7 @@ impl Stage for Scrambler {
         side: &mut [u8],
     ) -> Result<usize, StageFault> {
         admit_forward(n, s, self.length(n, s), work, side)?;
-        let _guard = Cleared { bytes: side };
-        add_sequence(&mut work[0..n], s.seed);
-        clear_from(work, n);
+        scramble(n, s.seed, work, side);
         Ok(n)
     }
 
@@ -54,11 +49,20 @@ impl Stage for Scrambler {
         side: &mut [u8],
     ) -> Result<usize, StageFault> {
         admit_back(s, self.length(n, s), self.covers(n, s), work, side)?;
-        let _guard = Cleared { bytes: side };
-        add_sequence(&mut work[0..n], s.seed);
-        clear_from(work, n);
+        scramble(n, s.seed, work, side);
         Ok(n)
     }
+}
+
+// Adds the sequence to the first n bytes, and zeroes all else: past the tests, both ways do the same.
+fn scramble(n: usize, seed: u32, work: &mut [u8], side: &mut [u8])
+    requires { n ≤ length work.old }
+    ensures work { work.new ≡ padded (xor (take n work.old) (sequence seed n)) (length work.old) }
+    ensures side { side.new ≡ zeros (length side.old) }
+{
+    let _guard = Cleared { bytes: side };
+    add_sequence(&mut work[..n], seed);
+    clear_from(work, n);
 }
 
 // Adds c(0), c(1) and so on of a seed to the bits of a slice.
