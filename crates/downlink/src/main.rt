@@ -9,7 +9,7 @@ use crate::bench::Bench;
 use crate::session::show_session;
 use chain::built_in::{BuiltIn, built_in};
 use check_bits::CheckBits;
-use packing::{Hex, unpack};
+use packing::Hex;
 use point::fixed::FixedPoint;
 use point::float::FloatPoint;
 use stage::setting::Setting;
