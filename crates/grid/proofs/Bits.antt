@@ -1,76 +1,41 @@
 -- Bits as points and points as bits, pair by pair.
-use Rattle.std.proofs.Common.{◌≡◌, ℕ, zero, suc, ◌+◌, ◌*◌, ◌/◌, ◌<◌, ◌≤◌, Bool, true, false, List, [], ◌∷◌, length, get_or, drop, Some, None, Option, sym, refl, ap, ◌∙◌, subst, arith}
-use Rattle.std.proofs.lemmas.List.{drop_more, length-drop}
+use Rattle.std.proofs.Common.{◌≡◌, ℕ, zero, suc, ◌*◌, ◌/◌, ◌<◌, Bool, List, [], ◌∷◌, length, get_or, map, Some, None, Option, refl, ap, arith}
+use Rattle.std.specs.Simd.{first_chunks}
 use Rattle.point.specs.Kinds.{Kind, LawfulKind}
 use Rattle.grid.specs.Pairs.{is_one, bit, points, joined, bits_of}
 
+bit_back : (a : ℕ) → a < 2 → bit (is_one a) ≡ a
+bit_back zero h = refl
+bit_back (suc zero) h = refl
+bit_back (suc (suc a)) h = absurd (omega arith)
+
+length_joined : (p : Option (Bool × Bool)) (o : Option (List ℕ)) (bs : List ℕ) (n : ℕ) → joined p o ≡ Some bs → ((us : List ℕ) → o ≡ Some us → length us ≡ 2 * n) → length bs ≡ 2 * suc n
+length_joined None o bs n e h = cc
+length_joined (Some p) None bs n e h = cc
+length_joined (Some p) (Some us) bs n e h = let q : bit p.0 ∷ bit p.1 ∷ us ≡ bs = cc in omega (arith, ap length q, h us refl)
+
 module _ {X : Type 0} (K : Kind X) where
-  two_more : (bs : List ℕ) (i : ℕ) → i < length bs / 2 → drop (2 * i) bs ≡ get_or bs (2 * i) 0 ∷ get_or bs (2 * i + 1) 0 ∷ drop (2 * (i + 1)) bs
-  two_more bs i h =
-      drop_more bs (2 * i) 0 (omega arith)
-      ∙ ap (λ ys. get_or bs (2 * i) 0 ∷ ys) (drop_more bs (2 * i + 1) 0 (omega arith))
-      ∙ ap (λ n. get_or bs (2 * i) 0 ∷ get_or bs (2 * i + 1) 0 ∷ drop n bs) (omega arith)
-
-  -- the point of the next pair comes next
-  pub points_more : (bs : List ℕ) (i : ℕ) (x : X) → i < length bs / 2 → x ≡ K.point (is_one (get_or bs (2 * i) 0)) (is_one (get_or bs (2 * i + 1) 0))
-      → points K (drop (2 * i) bs) ≡ x ∷ points K (drop (2 * (i + 1)) bs)
+  -- the points of the pairs, one for each
+  pub points-chunks : (bs : List ℕ) (n : ℕ) → n ≡ length bs / 2 → map (λ c. K.point (is_one (get_or c 0 0)) (is_one (get_or c 1 0))) (first_chunks 2 n bs) ≡ points K bs
   unfolding points
-  points_more bs i x h e = ap (points K) (two_more bs i h) ∙ ap (λ y. y ∷ points K (drop (2 * (i + 1)) bs)) (sym e)
-
-  none_left : (bs : List ℕ) → length bs < 2 → points K bs ≡ []
-  unfolding points
-  none_left [] h = refl
-  none_left (a ∷ []) h = refl
-  none_left (a ∷ b ∷ bs) h = absurd (omega arith)
-
-  -- no pair is left
-  pub points_end : (bs : List ℕ) (i : ℕ) → length bs / 2 ≤ i → points K (drop (2 * i) bs) ≡ []
-  points_end bs i h = none_left (drop (2 * i) bs) (let e = length-drop (2 * i) bs in omega arith)
+  points-chunks [] zero h = refl
+  points-chunks [] (suc n) h = absurd (omega arith)
+  points-chunks (a ∷ []) zero h = refl
+  points-chunks (a ∷ []) (suc n) h = absurd (omega arith)
+  points-chunks (a ∷ b ∷ bs) zero h = absurd (omega arith)
+  points-chunks (a ∷ b ∷ bs) (suc n) h = ap (λ xs. K.point (is_one a) (is_one b) ∷ xs) (points-chunks bs n (omega arith))
 
   pub length-points : (bs : List ℕ) → length (points K bs) ≡ length bs / 2
   unfolding points
   length-points [] = refl
   length-points (a ∷ []) = refl
-  length-points (a ∷ b ∷ bs) = let e = length-points bs in omega arith
-
-  glue : (p : Option (Bool × Bool)) (o : Option (List ℕ)) (bs : List ℕ) (n : ℕ) → joined p o ≡ Some bs → ((us : List ℕ) → o ≡ Some us → length us ≡ 2 * n) → length bs ≡ 2 * suc n
-  glue None o bs n e h = let z : ◌≡◌ {A = ℕ} 0 1 = cc in absurd (omega arith)
-  glue (Some p) None bs n e h = let z : ◌≡◌ {A = ℕ} 0 1 = cc in absurd (omega arith)
-  glue (Some p) (Some us) bs n e h =
-      let q : bit p.0 ∷ bit p.1 ∷ us ≡ bs = cc in
-      let k : length us ≡ 2 * n = h us refl in
-      sym (ap length q) ∙ omega arith
+  length-points (a ∷ b ∷ bs) = omega (arith, length-points bs)
 
   -- two bits to a point
   pub length_bits : (xs : List X) (bs : List ℕ) → bits_of K xs ≡ Some bs → length bs ≡ 2 * length xs
   unfolding bits_of
-  length_bits [] bs e = let q : [] ≡ bs = cc in ap length (sym q)
-  length_bits (x ∷ xs) bs e = glue (K.pair x) (bits_of K xs) bs (length xs) e (length_bits xs)
-
-  bit_small : (b : Bool) → bit b < 2
-  bit_small true = omega arith
-  bit_small false = omega arith
-
-  two_small : (bs us : List ℕ) (p : Bool × Bool) (k : ℕ) → bit p.0 ∷ bit p.1 ∷ us ≡ bs → ((j : ℕ) → get_or us j 0 < 2) → get_or bs k 0 < 2
-  two_small bs us p zero e h = subst (λ (vs : List ℕ). get_or vs 0 0 < 2) e (bit_small p.0)
-  two_small bs us p (suc zero) e h = subst (λ (vs : List ℕ). get_or vs 1 0 < 2) e (bit_small p.1)
-  two_small bs us p (suc (suc k)) e h = subst (λ (vs : List ℕ). get_or vs (suc (suc k)) 0 < 2) e (h k)
-
-  glue_small : (p : Option (Bool × Bool)) (o : Option (List ℕ)) (bs : List ℕ) (k : ℕ) → joined p o ≡ Some bs → ((us : List ℕ) (j : ℕ) → o ≡ Some us → get_or us j 0 < 2) → get_or bs k 0 < 2
-  glue_small None o bs k e h = let z : ◌≡◌ {A = ℕ} 0 1 = cc in absurd (omega arith)
-  glue_small (Some p) None bs k e h = let z : ◌≡◌ {A = ℕ} 0 1 = cc in absurd (omega arith)
-  glue_small (Some p) (Some us) bs k e h = two_small bs us p k (cc) (λ j. h us j refl)
-
-  -- and each is 0 or 1
-  pub bits_small : (xs : List X) (bs : List ℕ) (k : ℕ) → bits_of K xs ≡ Some bs → get_or bs k 0 < 2
-  unfolding bits_of
-  bits_small [] bs k e = let q : [] ≡ bs = cc in subst (λ (vs : List ℕ). get_or vs k 0 < 2) q (omega arith)
-  bits_small (x ∷ xs) bs k e = glue_small (K.pair x) (bits_of K xs) bs k e (λ us j f. bits_small xs us j f)
-
-  bit_back : (a : ℕ) → a < 2 → bit (is_one a) ≡ a
-  bit_back zero h = refl
-  bit_back (suc zero) h = refl
-  bit_back (suc (suc a)) h = absurd (omega arith)
+  length_bits [] bs e = let q : [] ≡ bs = cc in omega (arith, ap length q)
+  length_bits (x ∷ xs) bs e = length_joined (K.pair x) (bits_of K xs) bs (length xs) e (length_bits xs)
 
   -- the points of bits stand for these bits
   pub bits_of_points : LawfulKind K → (bs : List ℕ) (n : ℕ) → length bs ≡ 2 * n → ((k : ℕ) → k < 2 * n → get_or bs k 0 < 2) → bits_of K (points K bs) ≡ Some bs
@@ -79,7 +44,4 @@ module _ {X : Type 0} (K : Kind X) where
   bits_of_points law (a ∷ []) n h e = absurd (omega arith)
   bits_of_points law (a ∷ b ∷ bs) zero h e = absurd (omega arith)
   bits_of_points law (a ∷ b ∷ bs) (suc n) h e =
-      ap (λ p. joined p (bits_of K (points K bs))) (law.own (is_one a) (is_one b))
-      ∙ ap (joined (Some (is_one a, is_one b))) (bits_of_points law bs n (omega arith) (λ k l. e (suc (suc k)) (omega arith)))
-      ∙ ap (λ x. Some (x ∷ bit (is_one b) ∷ bs)) (bit_back a (e 0 (omega arith)))
-      ∙ ap (λ x. Some (a ∷ x ∷ bs)) (bit_back b (e 1 (omega arith)))
+      rw (law.own (is_one a) (is_one b), bits_of_points law bs n (omega arith) (λ k l. e (suc (suc k)) (omega arith)), bit_back a (e 0 (omega arith)), bit_back b (e 1 (omega arith)))

@@ -1,5 +1,5 @@
 -- What stands on a written grid: its length, its reference elements, and the bits that are read back.
-use Rattle.std.proofs.Common.{◌≡◌, ℕ, zero, suc, ◌+◌, ◌*◌, ◌/◌, ◌%◌, ◌<◌, true, false, List, length, get_or, replicate, Some, None, Option, sym, refl, ap, ◌∙◌, mod-lt, arith}
+use Rattle.std.proofs.Common.{◌≡◌, ℕ, zero, suc, ◌+◌, ◌*◌, ◌/◌, ◌%◌, ◌<◌, false, List, length, get_or, replicate, Some, None, Option, sym, refl, ap, ◌∙◌, mod-lt, arith}
 use Rattle.std.specs.Option.{option_map}
 use Rattle.std.proofs.lemmas.List.{length-replicate}
 use Rattle.point.specs.Kinds.{Kind, LawfulKind}
@@ -10,10 +10,10 @@ use Rattle.grid.specs.Pairs.{points, bits_of}
 use Rattle.grid.specs.References.{reference_bits}
 use Rattle.grid.specs.Grids.{vacant, marked, carrying, aired_bits, in_320}
 use Rattle.grid.specs.Laws.{ReferencesHold, MeetsRules}
-use Rattle.grid.proofs.Bits.{length-points, bits_of_points, length_bits, bits_small}
+use Rattle.grid.proofs.Bits.{length-points, bits_of_points, length_bits}
 use Rattle.grid.proofs.Overwrites.{overwritten-all}
-use Rattle.grid.proofs.Walks.{length-laid, length_taken, taken-laid, laid_puts, laid_stays}
-use Rattle.grid.proofs.Elements.{data_elements, reference_elements, Eight, eight_with, references_are, no_data}
+use Rattle.grid.proofs.Walks.{length-laid, length_taken, taken-laid, walk_law}
+use Rattle.grid.proofs.Elements.{data_elements, reference_elements, Eight, Numbered, eight_with, references_are}
 
 whole : (bits : List ℕ) → length bits ≡ 320 → in_320 bits ≡ bits
 unfolding in_320
@@ -44,11 +44,6 @@ module _ {X : Type 0} (K : Kind X) where
       length_bits K (taken (among Data identity) 0 grid) bits e
       ∙ ap (λ n. 2 * n) (length_taken (among Data identity) 0 grid ∙ ap (count (among Data identity) 0) h ∙ data_elements identity)
 
-  -- each of them 0 or 1
-  pub aired_small : (identity : ℕ) (grid : List X) (bits : List ℕ) (k : ℕ) → aired_bits K identity grid ≡ Some bits → get_or bits k 0 < 2
-  unfolding aired_bits
-  aired_small identity grid bits k e = bits_small K (taken (among Data identity) 0 grid) bits k e
-
   -- what is read of a grid of 168 points is all that it airs
   pub aired_whole : (identity : ℕ) (grid : List X) → length grid ≡ 168 → option_map in_320 (aired_bits K identity grid) ≡ aired_bits K identity grid
   aired_whole identity grid h = go (aired_bits K identity grid) refl
@@ -75,33 +70,25 @@ module _ {X : Type 0} (K : Kind X) where
     unfolding points reference_bits
     eight_points = refl
 
-    mark : (place n : ℕ) → place < 168 → n < 8 → (among Reference identity place ≡ true) × (count (among Reference identity) 0 place ≡ n)
-        → get_or (marked K 168 identity subframe) place K.blank ≡ get_or (points K (reference_bits identity subframe)) n K.blank
+    -- they hold on a grid that has the marked one's elements wherever no data go
+    hold : (grid : List X) → ((place : ℕ) → among Data identity place ≡ false → get_or grid place K.blank ≡ get_or (marked K 168 identity subframe) place K.blank) → ReferencesHold K identity subframe grid
     unfolding marked
-    mark place n h k r =
+    hold grid same =
+        spread grid
+        (eight_with (Numbered identity) _ _ _ (mod-lt (0 + identity) (omega arith)) (mod-lt (3 + identity) (omega arith))
+        (λ place n h k r.
         let few : count (among Reference identity) 0 place < length (points K (reference_bits identity subframe)) = omega (arith, r.1, eight_points) in
-        laid_puts (among Reference identity) (vacant K 168) (points K (reference_bits identity subframe)) place K.blank r.0 (omega (arith, length-vacant 168)) few
-        ∙ ap (λ j. get_or (points K (reference_bits identity subframe)) j K.blank) r.1
-
-    stay : (bits : List ℕ) (place : ℕ) → among Data identity place ≡ false → get_or (carrying K 168 identity subframe bits) place K.blank ≡ get_or (marked K 168 identity subframe) place K.blank
-    unfolding carrying
-    stay bits place e = laid_stays (among Data identity) (marked K 168 identity subframe) (points K bits) place K.blank e
-
-    low : (0 + identity) % 6 < 6
-    low = mod-lt (0 + identity) (omega arith)
-
-    high : (3 + identity) % 6 < 6
-    high = mod-lt (3 + identity) (omega arith)
+        same place r.2
+        ∙ (walk_law X).puts (among Reference identity) (vacant K 168) (points K (reference_bits identity subframe)) place K.blank r.0 (omega (arith, length-vacant 168)) few
+        ∙ ap (λ j. get_or (points K (reference_bits identity subframe)) j K.blank) r.1)
+        (references_are identity))
 
     pub references : ReferencesHold K identity subframe (marked K 168 identity subframe)
-    references =
-        spread (marked K 168 identity subframe)
-        (eight_with _ (λ place n. among Data identity place ≡ false) _ _ _ low high (λ place n h k r q. mark place n h k r) (references_are identity) (no_data identity))
+    references = hold (marked K 168 identity subframe) (λ place e. refl)
 
     pub references_stay : (bits : List ℕ) → ReferencesHold K identity subframe (carrying K 168 identity subframe bits)
-    references_stay bits =
-        spread (carrying K 168 identity subframe bits)
-        (eight_with _ _ _ _ _ low high (λ place n h k r q. stay bits place q ∙ mark place n h k r) (references_are identity) (no_data identity))
+    unfolding carrying
+    references_stay bits = hold _ (λ place e. (walk_law X).others (among Data identity) (marked K 168 identity subframe) (points K bits) place K.blank e)
 
     -- the bits of a data subframe are read back
     pub read_back : LawfulKind K → (bits : List ℕ) → length bits ≡ 320 → ((k : ℕ) → k < 320 → get_or bits k 0 < 2) → aired_bits K identity (carrying K 168 identity subframe bits) ≡ Some bits
@@ -115,7 +102,7 @@ module _ {X : Type 0} (K : Kind X) where
   pub meets_rules : LawfulKind K → MeetsRules K
   unfolding MeetsRules
   meets_rules law = record {
-    read_back = λ identity subframe bits h e. read_back identity subframe law bits h e;
+    read_back = λ identity subframe. read_back identity subframe law;
     data_elements = data_elements;
     reference_elements = reference_elements;
     references = references;

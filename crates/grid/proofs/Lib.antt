@@ -1,11 +1,8 @@
-pub mod Next
-pub mod Steps
+pub mod Chosen
 pub mod Overwrites
 pub mod Walks
 pub mod Bits
 pub mod Elements
 pub mod Carried
 pub mod Figures
-mod Blanks
 mod Fetched
-mod Seeds

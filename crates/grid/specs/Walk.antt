@@ -1,5 +1,6 @@
 -- The walk over a list in rising place: things put on its chosen places, and taken from them. Assumes nothing.
-use Rattle.std.specs.Prelude.{ℕ, zero, suc, Bool, cond, List, [], ◌∷◌, Some, None, Option}
+use Rattle.std.specs.Prelude.{ℕ, zero, suc, Bool, cond, List, [], ◌∷◌, Some, None, Option, filter}
+use Rattle.std.specs.List.{range_with_len}
 
 -- the list xs, whose first element has the place i, after the things ts were put on its chosen places, as far as they go
 unfoldable pub laid : {X : Type 0} → (ℕ → Bool) → ℕ → List X → List X → List X
@@ -21,6 +22,10 @@ count d i (suc n) = cond (d i) (suc (count d (suc i) n)) (count d (suc i) n)
 unfoldable pub next_place : (ℕ → Bool) → ℕ → ℕ → Option ℕ
 next_place d i zero = None
 next_place d i (suc n) = cond (d i) (Some i) (next_place d (suc i) n)
+
+-- the chosen ones of the n places from i on
+abbrev pub places : (ℕ → Bool) → ℕ → ℕ → List ℕ
+places d i n = filter d (range_with_len i n)
 
 -- the list ys, overwritten by the things ts from its front on, as far as it goes
 unfoldable pub overwritten : {X : Type 0} → List X → List X → List X

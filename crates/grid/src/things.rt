@@ -1,41 +1,42 @@
-ghost use Rattle.std.specs.Prelude.{◌≡◌};
-ghost use Rattle.calendar.specs.Identities.{number_of};
+ghost use Rattle.std.specs.Prelude.{◌≡◌, List};
+ghost use Rattle.std.specs.Iterator.{AlwaysYields};
 ghost use Rattle.grid.specs.Laws.{KeepsThings};
 ghost use Rattle.grid.specs.Purposes.{among};
 ghost use Rattle.grid.specs.Walk.{laid, taken, overwritten};
 
-use crate::places::next_place;
+use crate::places::Places;
 use crate::purpose::Purpose;
-use crate::shift::Shift;
 use calendar::identity::Identity;
 
 // Puts the things, in their order, on the elements of one purpose in rising place, as far as they go. Every other element stays.
+#[tactic(auto, using(crate::proofs::Walks::keeps_things))]
 pub fn put<T: Copy>(grid: &mut [T], identity: Identity, what: Purpose, things: &[T])
-    ensures after { grid.new ≡ laid (among what (number_of identity)) 0 grid.old things.now }
+    ensures after { grid.new ≡ laid (among what identity) 0 grid.old things.now }
     ensures law { KeepsThings T }
 {
-    let shift = Shift::of(identity);
-    let mut from = 0;
-    for thing in things {
-        let Some(place) = next_place(shift, what, from, grid.len()) else {
-            return;
-        };
-        grid[place] = *thing;
-        from = place + 1;
+    lay(grid, identity, what, things.iter().copied());
+}
+
+// Puts what comes, in its order, on the elements of one purpose in rising place, as far as both go.
+pub(crate) fn lay<T: Copy, I: Iterator<Item = T>>(
+    grid: &mut [T],
+    identity: Identity,
+    what: Purpose,
+    things: I,
+)
+    requires { I.can_next things }
+    ensures { (ts : List T) → AlwaysYields I.next_gives (λ t. t) things ts → grid.new ≡ laid (among what identity) 0 grid.old ts }
+{
+    for (place, thing) in Places::of(identity, what, grid.len()).zip(things) {
+        grid[place] = thing;
     }
 }
 
 // Copies what stands on the elements of one purpose, in rising place, over the front of `out`, as far as it goes.
 pub fn fetch<T: Copy>(grid: &[T], identity: Identity, what: Purpose, out: &mut [T])
-    ensures { out.new ≡ overwritten out.old (taken (among what (number_of identity)) 0 grid.now) }
+    ensures { out.new ≡ overwritten out.old (taken (among what identity) 0 grid.now) }
 {
-    let shift = Shift::of(identity);
-    let mut from = 0;
-    for slot in out.iter_mut() {
-        let Some(place) = next_place(shift, what, from, grid.len()) else {
-            return;
-        };
-        *slot = grid[place];
-        from = place + 1;
+    for (i, place) in (0..out.len()).zip(Places::of(identity, what, grid.len())) {
+        out[i] = grid[place];
     }
 }

@@ -1,22 +1,15 @@
-use Rattle.std.proofs.Common.{sym, ◌∙◌}
+use Rattle.std.proofs.Common.{rules, ◌-◌, sym, refl, ◌∙◌}
+use borrow.Author.Tests.{tests}
+use Rattle.std.proofs.lemmas.Iterator.{YieldsList-from_range}
+use Rattle.std.proofs.lemmas.Iterator.Adapters.{option_map_id}
+use Rattle.std.proofs.lemmas.Iterator.Search.{find_from_yields_List}
 use Rattle.grid.specs.Purposes.{among}
-use Rattle.grid.proofs.Next.{next_past, next_here, next_on}
+use Rattle.grid.proofs.Chosen.{next_place-find}
 use Rattle.grid.proofs.places.next_place.Goals as goal
 
-pub returns-then-is_for : goal.returns-then-is_for
-returns-then-is_for c =
-    let d = among c.args.what in
-    record {
-      place = λ id h. sym (next_here (d id) _ _ c.loop-place-test.true (sym (c.is_for.ensures id h) ∙ c.if-is_for.true)) ∙ c.loop-place.invariant id h;
-      within = (c.loop-place.auto.place, c.loop-place-test.true);
-    }
-
-pub loop-place-preserved : goal.loop-place-preserved
-loop-place-preserved c =
-    let d = among c.args.what in
-    λ id h. sym (next_on (d id) _ _ c.loop-place-test.true (sym (c.is_for.ensures id h) ∙ c.if-is_for.false)) ∙ c.loop-place.invariant id h
-
-pub returns : goal.returns
-returns c =
-    let d = among c.args.what in
-    record { place = λ id h. sym (next_past (d id) _ _ c.loop-place-test.false) ∙ c.loop-place.invariant id h; within = tt }
+pub returns-clause-place : goal.returns-clause-place
+unfolding among
+returns-clause-place c = λ id h.
+    sym (option_map_id _)
+    ∙ find_from_yields_List (among c.args.what id) _ _ c.find.result c.find.ensures.ran (YieldsList-from_range c.args.from c.args.end (c.args.end - c.args.from) refl refl) (λ x b q k. search (rules, tests))
+    ∙ sym (next_place-find (among c.args.what id) (c.args.end - c.args.from) c.args.from)

@@ -1,24 +1,19 @@
-use Rattle.calendar.specs.Identities.{number_of}
-use Rattle.grid.specs.Purposes.{among}
-use Rattle.grid.proofs.Steps.{put_more, put_end, put_done}
-use Rattle.grid.proofs.Bits.{points_more, points_end}
+use Rattle.std.proofs.Common.{rules, ◌≡◌, ◌/◌, List, ℕ, Iter, length, get_or, ap, ◌∙◌, refl, subst}
+use Rattle.std.specs.Iterator.{AlwaysYields}
+use Rattle.std.specs.Simd.{first_chunks}
+use Rattle.std.proofs.iter.Yields.{fronts, slice_gives, map_gives}
+use Rattle.grid.specs.Pairs.{is_one, points}
+use Rattle.grid.proofs.Bits.{points-chunks}
 use Rattle.grid.proofs.subframe.put_pairs.Goals as goal
-
-pub loop-i-preserved : goal.loop-i-preserved
-loop-i-preserved g c = λ id h.
-    put_more (among c.args.what id) c.loop-i.grid _ _ _ c.pair_point.result c.loop-i.from c.in-Some.place _
-    (c.next_place.ensures.place id h) c.in-Some.is
-    (points_more g.P.Point.kind c.args.bits.now c.loop-i.i c.pair_point.result c.loop-i-test.true c.pair_point.ensures)
-    (c.loop-i.invariant id h)
-
-pub returns-in_default : goal.returns-in_default
-returns-in_default g c =
-    let id = number_of c.args.identity in
-    let h = c.of-shift.ensures in
-    put_end (among c.args.what id) c.loop-i.grid _ _ c.loop-i.from _ (c.next_place.ensures.place id h) c.in_default.is (c.loop-i.invariant id h)
 
 pub returns : goal.returns
 returns g c =
-    let id = number_of c.args.identity in
-    put_done (among c.args.what id) c.loop-i.grid _ _ c.loop-i.from
-    (points_end g.P.Point.kind c.args.bits.now c.loop-i.i c.loop-i-test.false) (c.loop-i.invariant id c.of-shift.ensures)
+    let K = g.P.Point.kind in
+    let bits = c.args.bits.now in
+    let pairs = first_chunks 2 (length bits / 2) bits in
+    let rest : c.map.result.iter.rest.now ≡ pairs = ap (λ (s : Iter (List ℕ)). s.rest.now) c.map.ensures.source ∙ c.iter.ensures.rest ∙ c.as_chunks.ensures.front in
+    let road : AlwaysYields fronts (λ y. y.now) c.map.result.iter pairs = subst (AlwaysYields fronts (λ y. y.now) c.map.result.iter) rest (slice_gives c.map.result.iter) in
+    let points_are = points-chunks K bits (length bits / 2) refl in
+    c.lay.ensures (points K bits)
+    (rw (← points_are)
+    (map_gives fronts (λ y. y.now) _ (λ (pair : List ℕ). K.point (is_one (get_or pair 0 0)) (is_one (get_or pair 1 0))) (λ f x r q k. search rules) pairs c.map.result road))
