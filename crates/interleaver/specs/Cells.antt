@@ -1,15 +1,17 @@
 -- The cells of one matrix as they are read: which cell comes at which turn, and that each bit is read once. Assumes nothing.
-use Rattle.std.specs.Prelude.{◌≡◌, ℕ, zero, suc, ◌+◌, ◌-◌, ◌*◌, ◌/◌, ◌%◌, ◌<◌, ◌≤◌, Bool, true, false, cond, ◌&&◌, List, [], ◌∷◌, map, length, take, sum_by, filter, nat_eq, nat_le, nat_lt, slice_index, slice_index_or, refl}
-use Rattle.std.proofs.Common.{sym, ◌∙◌, ⊎_elim, zero-add, zero-mul, suc-mul, arith}
+use Rattle.std.specs.Prelude.{◌≡◌, ◌≢◌, ℕ, zero, suc, ◌+◌, ◌-◌, ◌*◌, ◌/◌, ◌%◌, ◌<◌, ◌≤◌, Bool, true, cond, ◌&&◌, List, [], ◌∷◌, map, length, take, filter, nat_eq, nat_le, nat_lt, AllPairs, slice_index, slice_index_or, refl}
+use Rattle.std.proofs.Common.{sym, ◌∙◌, ⊎_elim, zero-add, arith}
 use Rattle.std.proofs.Math.Path.{ap}
 use Rattle.std.specs.List.{range_with_len}
+use Rattle.std.proofs.lemmas.Grind.{get_or_default_zero}
 use Rattle.std.proofs.lemmas.List.{get_or-map, length-map}
+use Rattle.std.proofs.lemmas.List.Elements.{All-from_get_or, All-filter, filter_passes}
 use Rattle.std.proofs.lemmas.List.FromFn.{length-map-range_with_len, get_or-map-range_with_len}
-use Rattle.std.proofs.lemmas.List.Sums.{sum_by-cons}
+use Rattle.std.proofs.lemmas.List.Kept.{AllPairs-filter}
 use Rattle.std.proofs.lemmas.Nat.{mul-add-lt, div_below, mod_below, div-add-mod'}
 use Rattle.std.proofs.lemmas.Bool.{cases_lt, eqb-true, ltb-true, le-leb, leb-true, and_parts}
 use Rattle.interleaver.specs.Interleaving.{order, rows, unused, used, cell, column, reading, places}
-use Rattle.interleaver.specs.Kept.{pos, pos-all, at-pos, from_pos, kept_joined, kept_counting}
+use Rattle.interleaver.specs.Kept.{kept_at, head_kept, kept_joined, kept_counting}
 use Rattle.interleaver.specs.Joins.{length-joined, slice_index-joined}
 
 -- a test that is computed at each number below n
@@ -42,10 +44,10 @@ order-turn : (c : ℕ) → c < 32 → slice_index order (slice_index turn c) ≡
 order-turn c h = eqb-true (slice_index order (slice_index turn c)) c (checked (λ c. nat_eq (slice_index order (slice_index turn c)) c) 32 refl c h)
 
 -- of the columns, all but the first u begin with a used cell
-used_columns : (u : ℕ) → u < 32 → sum_by (λ c. cond (nat_le u c) 1 0) order ≡ 32 - u
+used_columns : (u : ℕ) → u < 32 → length (filter (nat_le u) order) ≡ 32 - u
 used_columns u h =
-    eqb-true (sum_by (λ c. cond (nat_le u c) 1 0) order) (32 - u)
-    (checked (λ u. nat_eq (sum_by (λ c. cond (nat_le u c) 1 0) order) (32 - u)) 32 refl u h)
+    eqb-true (length (filter (nat_le u) order)) (32 - u)
+    (checked (λ u. nat_eq (length (filter (nat_le u) order)) (32 - u)) 32 refl u h)
 
 module _ (d : ℕ) where
   length-column : (c : ℕ) → length (column d c) ≡ rows d
@@ -100,20 +102,7 @@ module _ (d : ℕ) where
       let o = order_below (t / rows d) is.0 in
       omega arith
 
-sum_by_plus : (g : ℕ → ℕ) (m : ℕ) (xs : List ℕ) → sum_by (λ x. g x + m) xs ≡ sum_by g xs + length xs * m
-sum_by_plus g m [] = sym (ap (λ v. 0 + v) (zero-mul m))
-sum_by_plus g m (x ∷ xs) =
-    let e = sum_by_plus g m xs in
-    let s = suc-mul (length xs) m in
-    let a = sum_by-cons (λ x. g x + m) x xs in
-    let b = sum_by-cons g x xs in
-    omega arith
-
 -- as many cells are used as there are bits
-head_kept : (b : Bool) (x : ℕ) (ks : List ℕ) → length (cond b (x ∷ ks) ks) ≡ cond b 1 0 + length ks
-head_kept true x ks = omega arith
-head_kept false x ks = omega arith
-
 column_kept : (d m c : ℕ) → rows d ≡ suc m → length (filter (used d) (column d c)) ≡ cond (used d c) 1 0 + m
 column_kept d m c e =
     let f : ℕ → ℕ = cell c in
@@ -130,65 +119,60 @@ length_kept (suc n) =
     let d = suc n in
     let m = rows d - 1 in
     let e : rows d ≡ suc m = omega arith in
-    let g : ℕ → ℕ = λ c. cond (used d c) 1 0 in
     let u = used_columns (unused d) (omega arith) in
-    kept_joined (used d) (column d) (λ c. g c + m) (λ c. column_kept d m c e) order
-    ∙ sum_by_plus g m order ∙ ap (λ v. v + 32 * m) u ∙ omega arith
+    kept_joined (used d) (used d) (column d) m (λ c. column_kept d m c e) order ∙ ap (λ v. v + 32 * m) u ∙ omega arith
 
 module _ (d : ℕ) where
   pub length-places : length (places d) ≡ d
   unfolding places
   length-places = length-map (filter (used d) (reading d)) (λ q. q - unused d) ∙ length_kept d
 
-  pub used_all : (t : ℕ) → 32 * rows d ≤ t → pos (used d) (reading d) t ≡ d
-  used_all t h = let l = length-reading d in pos-all (used d) (reading d) t (omega arith) ∙ length_kept d
+  -- the cell in which bit k as they are read stands
+  abbrev cell_of : ℕ → ℕ
+  cell_of k = slice_index (filter (used d) (reading d)) k
 
-  -- the bit that is read after t cells, of which some were used
-  pub places-at : (t : ℕ) → t < 32 * rows d → unused d ≤ slice_index (reading d) t
-      → (pos (used d) (reading d) t < d) × (slice_index (places d) (pos (used d) (reading d) t) ≡ slice_index (reading d) t - unused d)
+  places-at : (k : ℕ) → k < d → slice_index (places d) k ≡ cell_of k - unused d
   unfolding places
-  places-at t h g =
-      let l = length-reading d in
-      let a = at-pos (used d) (reading d) t (omega arith) (le-leb (unused d) (slice_index (reading d) t) g) in
-      let n = length_kept d in (
-        omega (arith, a.0),
-        get_or-map (λ q. q - unused d) (filter (used d) (reading d)) (pos (used d) (reading d) t) 0 0 a.0
-            ∙ ap (λ q. q - unused d) a.1,
+  places-at k h = get_or-map (λ q. q - unused d) (filter (used d) (reading d)) k 0 0 (omega (arith, length_kept d))
+
+  cell_of_within : (k : ℕ) → k < d → (unused d ≤ cell_of k) × (cell_of k < 32 * rows d)
+  cell_of_within k h =
+      let i : k < length (filter (used d) (reading d)) = omega (arith, length_kept d) in
+      let below = All-from_get_or (λ q. q < 32 * rows d) (reading d) 0 (λ t g. reading-below d t (omega (arith, length-reading d))) in (
+        leb-true (unused d) (cell_of k) (filter_passes (used d) (reading d) k 0 i),
+        All-filter (used d) (λ q. q < 32 * rows d) (reading d) below k 0 i,
       )
 
-  -- and the cell in which a bit stands
-  cell_of : (k : ℕ) → k < d
-      → (t : ℕ) × (t < 32 * rows d) × (unused d ≤ slice_index (reading d) t) × (pos (used d) (reading d) t ≡ k)
-      × (slice_index (places d) k ≡ slice_index (reading d) t - unused d)
-  cell_of k h =
-      let l = length-reading d in
-      let a = used_all (length (reading d)) (omega arith) in
-      let s = from_pos (used d) (reading d) (length (reading d)) k (omega arith) (omega arith) in
-      let t = s.0 in
-      let g = leb-true (unused d) (slice_index (reading d) t) s.2 in
-      let b : t < 32 * rows d = omega (arith, s.1) in
-      (t, b, g, s.3, ap (λ i. slice_index (places d) i) (sym s.3) ∙ (places-at t b g).1)
-
   pub places-within : (k : ℕ) → k < d → slice_index (places d) k < d
-  places-within k h =
-      let s = cell_of k h in
-      let b = reading-below d s.0 s.1 in
-      omega (arith, s.2, s.4)
+  places-within k h = let q = cell_of_within k h in omega (arith, q.0, q.1, places-at k h)
 
   pub places-every : (p : ℕ) → p < d → (k : ℕ) × (k < d) × (slice_index (places d) k ≡ p)
   places-every p h =
       let q = p + unused d in
+      let t = before d q in
       let e = reading-before d q (omega arith) in
-      let a = places-at (before d q) (before-below d q (omega arith)) (omega arith) in
-      (pos (used d) (reading d) (before d q), a.0, a.1 ∙ omega arith)
+      let i : t < length (reading d) = omega (arith, length-reading d, before-below d q (omega arith)) in
+      let a = kept_at (used d) (reading d) t i (le-leb (unused d) (slice_index (reading d) t) (omega arith)) in
+      let b : a.0 < d = omega (arith, a.1, length_kept d) in
+      (a.0, b, omega (arith, places-at a.0 b, a.2, e))
+
+  reading_apart : AllPairs (λ x y. x ≢ y) (reading d)
+  reading_apart i j e l h same =
+      let long = length-reading d in
+      let is : (t : ℕ) → t < length (reading d) → before d (slice_index_or (reading d) t e) ≡ t =
+      λ t g. ap (before d) (get_or_default_zero (reading d) t e g) ∙ before-reading d t (omega arith) in
+      let turns : i ≡ j = sym (is i (omega arith)) ∙ ap (before d) same ∙ is j h in
+      omega arith
 
   pub places_once : (j k : ℕ) → j < d → k < d → slice_index (places d) j ≡ slice_index (places d) k → j ≡ k
   places_once j k g h e =
-      let s = cell_of j g in
-      let t = cell_of k h in
-      let same : slice_index_or (reading d) s.0 0 ≡ slice_index_or (reading d) t.0 0 = omega (arith, s.2, s.4, t.2, t.4) in
-      let turns : s.0 ≡ t.0 = sym (before-reading d s.0 s.1) ∙ ap (before d) same ∙ before-reading d t.0 t.1 in
-      sym s.3 ∙ ap (pos (used d) (reading d)) turns ∙ t.3
+      let n = length_kept d in
+      let q = cell_of_within j g in
+      let r = cell_of_within k h in
+      let apart = AllPairs-filter (λ x y. x ≢ y) (used d) (reading d) reading_apart in
+      let same : cell_of j ≡ cell_of k = omega (arith, q.0, r.0, places-at j g, places-at k h) in
+      ⊎_elim (λ l. absurd (apart j k 0 l (omega arith) same))
+      (λ l. ⊎_elim (λ l. absurd (apart k j 0 l (omega arith) (sym same))) (λ m. omega arith) (cases_lt k j)) (cases_lt j k)
 
 -- of 40 bits, the first five as they are read
 pub first_of_forty : take 5 (places 40) ≡ 9 ∷ 25 ∷ 17 ∷ 1 ∷ 33 ∷ []

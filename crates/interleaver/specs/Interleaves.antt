@@ -1,8 +1,8 @@
 -- The interleaver is lawful, and what its calls leave. Assumes nothing.
-use Rattle.std.specs.Prelude.{◌≡◌, ℕ, ◌*◌, ◌/◌, ◌%◌, ◌<◌, ◌≤◌, Bool, true, ◌&&◌, List, ◌++◌, length, take, drop, None, Ok, ◌==◌, nat_le}
+use Rattle.std.specs.Prelude.{◌≡◌, ℕ, ◌*◌, ◌/◌, ◌%◌, ◌<◌, ◌≤◌, Bool, true, ◌&&◌, List, length, take, None, Ok, ◌==◌, nat_le}
 use Rattle.std.proofs.Common.{sym, ap, ap₂, subst, ◌∙◌, arith}
 use Rattle.std.proofs.lemmas.Bool.{and_parts, eqb-true, leb-true, cond-true, cond_both}
-use Rattle.std.proofs.lemmas.List.{length-take-le, take_at, length-replicate}
+use Rattle.std.proofs.lemmas.List.{length-take-le, length-replicate}
 use Rattle.stage.specs.declared.setting.Setting.{Setting}
 use Rattle.stage.specs.Bits.{binary, Bits, zeros, padded}
 use Rattle.stage.specs.Gather.{gathered, Within, Every}
@@ -10,7 +10,7 @@ use Rattle.stage.specs.Meaning.{Lawful, word}
 use Rattle.stage.specs.Refusals.{first_fault, forward_tests, back_tests}
 use Rattle.stage.specs.Calls.{word_length, covering, Forward, Back}
 use Rattle.stage.proofs.Binary.{binary-zeros}
-use Rattle.stage.proofs.Gathering.{length-gathered, gathered_bits, gathered-xor, gathered_apart, bits_from_gathered}
+use Rattle.stage.proofs.Gathering.{gathered_bits, gathered-xor, gathered_apart, bits_from_gathered}
 use Rattle.stage.proofs.Framed.{word_plain, Ready, ready, ReadyBack, ready_back, framed_forward, framed_found}
 use Rattle.stage.specs.Ranges.{within}
 use Rattle.interleaver.specs.Interleaving.{triple, three_streams, interleaving}
@@ -68,23 +68,6 @@ interleaving_lawful = record {
 pub interleaved_word : (n e seed : ℕ) → 0 < interleaving.size n e → (b : List ℕ) → Bits n b
     → word interleaving n e seed b ≡ gathered (triple (n / 3)) b
 interleaved_word n e seed h b p = word_plain interleaving_lawful n e seed h (ap zeros (sym (streamed n e h).same)) b p
-
--- three streams of d bits, copied to the side buffer, and a new front of the work buffer; the code writes the part's end as j
-module _ (d j : ℕ) (same : j ≡ 3 * d) (work side copy part : List ℕ) (room : 3 * d ≤ length work) (CopyIs : copy ≡ take j work) where
-  aside : take j (copy ++ drop j side) ≡ take (3 * d) work
-  aside =
-      let long : length copy ≡ j = ap length CopyIs ∙ length-take-le j work (omega arith) in
-      take_at copy (drop j side) j long ∙ CopyIs ∙ ap (λ i. take i work) same
-
-  pub interleave_front : part ≡ gathered (triple d) (take j (copy ++ drop j side))
-      → take (3 * d) (part ++ drop j work) ≡ gathered (triple d) (take (3 * d) work)
-  interleave_front e =
-      let long : length part ≡ 3 * d = ap length e ∙ length-gathered (triple d) (take j (copy ++ drop j side)) ∙ length-triple d in
-      take_at part (drop j work) (3 * d) long ∙ e ∙ ap (gathered (triple d)) aside
-
-  pub deinterleave_front : length part ≡ 3 * d → gathered (triple d) part ≡ take j (copy ++ drop j side)
-      → gathered (triple d) (take (3 * d) (part ++ drop j work)) ≡ take (3 * d) work
-  deinterleave_front long e = ap (gathered (triple d)) (take_at part (drop j work) (3 * d) long) ∙ e ∙ aside
 
 -- both buffers hold the three streams
 abbrev Room : ℕ → List ℕ → List ℕ → Type 0

@@ -1,6 +1,6 @@
 -- The sub-block interleaver: each of three streams is written into a matrix of 32 columns row by row, and
 -- read column by column. Cells are numbered row by row, from the top left. Assumes nothing.
-use Rattle.std.specs.Prelude.{ℕ, ◌+◌, ◌-◌, ◌*◌, ◌/◌, ◌%◌, Bool, true, cond, ◌&&◌, List, [], ◌∷◌, map, Some, None, filter, Option, ◌==◌, nat_le}
+use Rattle.std.specs.Prelude.{ℕ, ◌+◌, ◌-◌, ◌*◌, ◌/◌, ◌%◌, Bool, true, cond, ◌&&◌, List, [], ◌∷◌, map, drop, Some, None, filter, Option, ◌==◌, nat_le}
 use Rattle.std.specs.List.{range_with_len, flat_map}
 use Rattle.stage.specs.Bits.{zeros}
 use Rattle.stage.specs.Gather.{gathered}
@@ -39,6 +39,10 @@ reading d = flat_map (column d) order
 -- the bits of a stream as they are read: unused cells are skipped, and bit 0 is in the first used cell
 unfoldable pub places : ℕ → List ℕ
 places d = map (λ q. q - unused d) (filter (used d) (reading d))
+
+-- those that are left to read at turn c, row r
+unfoldable pub left : ℕ → ℕ → ℕ → List ℕ
+left d c r = map (λ q. q - unused d) (filter (used d) (drop (c * rows d + r) (reading d)))
 
 -- the bit in cell q, or none where it is unused
 abbrev pub bit_in : ℕ → ℕ → Option ℕ

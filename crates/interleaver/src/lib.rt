@@ -1,8 +1,9 @@
 #![tactic(auto)]
 
 ghost use Rattle.std.specs.Prelude.{◌≡◌, ◌+◌, ◌*◌, ◌<◌, ◌≤◌, length, take, slice_index, slice_set};
+ghost use Rattle.std.specs.Iterator.{YieldsFirst, item_count};
 ghost use Rattle.stage.specs.Gather.{gathered};
-ghost use Rattle.interleaver.specs.Interleaving.{order, rows, cell, bit_in, triple, three_streams, interleaving};
+ghost use Rattle.interleaver.specs.Interleaving.{order, rows, cell, bit_in, left, triple, three_streams, interleaving};
 ghost use Rattle.interleaver.specs.Interleaves.{interleaving_lawful};
 
 use stage::admission::{admit_back, admit_forward};
@@ -27,6 +28,17 @@ pub struct Interleaver {}
 struct Matrix {
     bits: usize,
     height: usize,
+    ghost few: { bits ≤ 2560 },
+    ghost fewest: { height ≡ rows bits },
+}
+
+// The bits of its stream, in the order in which they are read.
+#[derive(Drop)]
+struct Places {
+    matrix: Matrix,
+    turn: usize,
+    row: usize,
+    ghost inside: { row ≤ matrix.height },
 }
 
 impl Stage for Interleaver {
@@ -55,7 +67,7 @@ impl Stage for Interleaver {
         let m = self.length(n, s);
         admit_forward(n, s, m, work, side)?;
         let guard = Cleared { bytes: side };
-        interleave(work, guard.bytes, n / 3);
+        Matrix::holding(n / 3).interleave(work, guard.bytes);
         clear_from(work, m);
         Ok(m)
     }
@@ -70,7 +82,7 @@ impl Stage for Interleaver {
         let m = self.length(n, s);
         admit_back(s, m, self.covers(n, s), work, side)?;
         let guard = Cleared { bytes: side };
-        deinterleave(work, guard.bytes, n / 3);
+        Matrix::holding(n / 3).deinterleave(work, guard.bytes);
         clear_from(work, n);
         Ok(n)
     }
@@ -80,77 +92,14 @@ impl Stage for Interleaver {
 fn is_three_streams(n: usize) -> bool
     ensures { result ≡ three_streams n }
 {
-    n % 3 == 0 && n / 3 >= 7 && n / 3 <= 2560
-}
-
-// Interleaves the three streams at the start of the work buffer, by way of the side buffer.
-fn interleave(work: &mut [u8], side: &mut [u8], d: usize)
-    requires few { d ≤ 2560 }
-    requires work_holds { 3 * d ≤ length work.old }
-    requires side_holds { 3 * d ≤ length side.old }
-    ensures { take (3 * d) work.new ≡ gathered (triple d) (take (3 * d) work.old) }
-{
-    let n = 3 * d;
-    side[0..n].copy_from_slice(&work[0..n]);
-    read_columns(&side[0..n], &mut work[0..n], d);
-}
-
-// Puts back the three streams whose interleaved bits are at the start of the work buffer.
-fn deinterleave(work: &mut [u8], side: &mut [u8], d: usize)
-    requires few { d ≤ 2560 }
-    requires work_holds { 3 * d ≤ length work.old }
-    requires side_holds { 3 * d ≤ length side.old }
-    ensures { gathered (triple d) (take (3 * d) work.new) ≡ take (3 * d) work.old }
-{
-    let n = 3 * d;
-    side[0..n].copy_from_slice(&work[0..n]);
-    write_columns(&side[0..n], &mut work[0..n], d);
-}
-
-// Reads the matrices of three streams together, since their columns are alike.
-fn read_columns(block: &[u8], word: &mut [u8], d: usize)
-    requires few { d ≤ 2560 }
-    requires three { length block.now ≡ 3 * d }
-    requires same { length word.old ≡ 3 * d }
-    ensures { word.new ≡ gathered (triple d) block.now }
-{
-    let m = Matrix::holding(d);
-    let mut k: usize = 0;
-    for turn in 0..32usize {
-        for row in 0..m.height {
-            if let Some(p) = m.bit_at(turn, row) {
-                copy_bit(block, p, word, k, d);
-                k += 1;
-            }
-        }
-    }
-}
-
-// Writes the matrices of three streams in the order in which they are read.
-fn write_columns(word: &[u8], block: &mut [u8], d: usize)
-    requires few { d ≤ 2560 }
-    requires three { length word.now ≡ 3 * d }
-    requires same { length block.old ≡ 3 * d }
-    ensures { gathered (triple d) block.new ≡ word.now }
-{
-    let m = Matrix::holding(d);
-    let mut k: usize = 0;
-    for turn in 0..32usize {
-        for row in 0..m.height {
-            if let Some(p) = m.bit_at(turn, row) {
-                copy_bit(word, k, block, p, d);
-                k += 1;
-            }
-        }
-    }
+    n % 3 == 0 && (7..=2560).contains(&(n / 3))
 }
 
 impl Matrix {
     // The fewest rows that hold d bits.
     fn holding(d: usize) -> Matrix
         requires { d ≤ 2560 }
-        ensures bits { result.bits ≡ d }
-        ensures height { result.height ≡ rows d }
+        ensures { result.bits ≡ d }
     {
         Matrix {
             bits: d,
@@ -158,10 +107,57 @@ impl Matrix {
         }
     }
 
+    // Interleaves the three streams at the start of the work buffer, by way of the side buffer.
+    fn interleave(self, work: &mut [u8], side: &mut [u8])
+        requires work_holds { 3 * self.bits ≤ length work.old }
+        requires side_holds { 3 * self.bits ≤ length side.old }
+        ensures { take (3 * self.bits) work.new ≡ gathered (triple self.bits) (take (3 * self.bits) work.old) }
+    {
+        let n = 3 * self.bits;
+        side[..n].copy_from_slice(&work[..n]);
+        for (k, p) in self.places().enumerate() {
+            self.copy_bit(side, p, work, k);
+        }
+    }
+
+    // Puts back the three streams whose interleaved bits are at the start of the work buffer.
+    fn deinterleave(self, work: &mut [u8], side: &mut [u8])
+        requires work_holds { 3 * self.bits ≤ length work.old }
+        requires side_holds { 3 * self.bits ≤ length side.old }
+        ensures { gathered (triple self.bits) (take (3 * self.bits) work.new) ≡ take (3 * self.bits) work.old }
+    {
+        let n = 3 * self.bits;
+        side[..n].copy_from_slice(&work[..n]);
+        for (k, p) in self.places().enumerate() {
+            self.copy_bit(side, k, work, p);
+        }
+    }
+
+    // Copies bit p of each of three streams to bit k, since their matrices are alike.
+    fn copy_bit(self, from: &[u8], p: usize, to: &mut [u8], k: usize)
+        requires source { 2 * self.bits + p < length from.now }
+        requires target { 2 * self.bits + k < length to.old }
+        ensures { to.new ≡ slice_set (slice_set (slice_set to.old k (slice_index from.now p)) (self.bits + k) (slice_index from.now (self.bits + p))) (2 * self.bits + k) (slice_index from.now (2 * self.bits + p)) }
+    {
+        let d = self.bits;
+        to[k] = from[p];
+        to[d + k] = from[d + p];
+        to[2 * d + k] = from[2 * d + p];
+    }
+
+    // Its bits, of which none is read yet.
+    fn places(self) -> Places
+        ensures { left result.matrix.bits result.turn result.row ≡ left self.bits 0 0 }
+    {
+        Places {
+            matrix: self,
+            turn: 0,
+            row: 0,
+        }
+    }
+
     // The bit in a row of the column that is read at a turn, or none where the cell is unused.
     fn bit_at(self, turn: usize, row: usize) -> Option<usize>
-        requires few { self.bits ≤ 2560 }
-        requires fewest { self.height ≡ rows self.bits }
         requires turns { turn < 32 }
         requires inside { row < self.height }
         ensures { result ≡ bit_in self.bits (cell (slice_index order turn) row) }
@@ -172,14 +168,26 @@ impl Matrix {
     }
 }
 
-// Copies bit p of each of three streams of d bits to bit k.
-fn copy_bit(from: &[u8], p: usize, to: &mut [u8], k: usize, d: usize)
-    requires few { d ≤ 2560 }
-    requires source { 2 * d + p < length from.now }
-    requires target { 2 * d + k < length to.old }
-    ensures { to.new ≡ slice_set (slice_set (slice_set to.old k (slice_index from.now p)) (d + k) (slice_index from.now (d + p))) (2 * d + k) (slice_index from.now (2 * d + p)) }
-{
-    to[k] = from[p];
-    to[d + k] = from[d + p];
-    to[2 * d + k] = from[2 * d + p];
+impl Iterator for Places {
+    type Item = usize;
+
+    ghost next_gives = { YieldsFirst (λ s. left s.matrix.bits s.turn s.row) };
+
+    ghost remaining = { item_count (λ s. left s.matrix.bits s.turn s.row) };
+
+    fn next(&mut self) -> Option<usize> {
+        while self.turn < 32 {
+            if self.row == self.matrix.height {
+                self.turn += 1;
+                self.row = 0;
+                continue;
+            }
+            let bit = self.matrix.bit_at(self.turn, self.row);
+            self.row += 1;
+            if let Some(p) = bit {
+                return Some(p);
+            }
+        }
+        None
+    }
 }

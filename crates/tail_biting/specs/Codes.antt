@@ -1,17 +1,16 @@
 -- The words of the tail-biting code, and what its loops leave in both buffers. Assumes nothing.
-use Rattle.std.specs.Prelude.{◌≡◌, ℕ, ◌-◌, ◌*◌, ◌≤◌, Bool, true, false, List, ◌++◌, length, take, drop, Decides, ◌≢◌, refl}
-use Rattle.std.proofs.Common.{sym, ap, ap₂, ◌∙◌, arith}
+use Rattle.std.specs.Prelude.{◌≡◌, ℕ, ◌+◌, ◌-◌, ◌*◌, ◌<◌, ◌≤◌, Bool, true, false, List, [], ◌∷◌, ◌++◌, length, take, drop, IsTrue, ◌↔◌, ◌≢◌, refl}
+use Rattle.std.specs.List.{flat_map}
+use Rattle.std.proofs.Common.{get_or, sym, ap, ap₂, ◌∙◌, zero-mul, suc-mul, add-one, mul-le-mul_right, arith}
 use borrow.Rule.Slice.PartMut.{put_mid}
 use Rattle.std.proofs.lemmas.Bool.{false≢true}
-use Rattle.std.proofs.lemmas.List.{length-append, length-take-le, length-drop, take_at, drop_at, take_rest, take-replicate, drop-replicate, append_assoc}
-use Rattle.stage.specs.declared.fault.StageFault.{StageFault}
-use Rattle.stage.specs.declared.fault.StageFault.TheVariants.{NoBlock}
+use Rattle.std.proofs.lemmas.List.{length-append, length-take-le, length-drop, take_at, drop_at, take_rest, take-replicate, drop-replicate, append_assoc, append-nil, take_more, flat_map_more}
 use Rattle.stage.specs.Bits.{binary, Bits, xor, zeros, padded}
 use Rattle.stage.specs.Xors.{xor-append, xor_bits, xor_back, xor_self, zeros-xor, length_xor_same}
 use Rattle.stage.proofs.Binary.{binary-append, binary-take, binary-drop}
 use Rattle.stage.proofs.Padding.{front_cleared}
 use Rattle.tail_biting.specs.Coding.{stream, taps_of, coded, undo0, undo2, uncoded}
-use Rattle.tail_biting.specs.Adding.{added_three, xor_none}
+use Rattle.tail_biting.specs.Adding.{added_next, xor_none}
 use Rattle.tail_biting.specs.Streams.{length-stream, binary-stream, stream-xor, streams_undone}
 
 pub length-coded : (b : List ℕ) → length (coded b) ≡ 3 * length b
@@ -83,62 +82,58 @@ module _ (n : ℕ) (w : List ℕ) (l : length w ≡ 3 * n) where
       (front_long, binary-stream undo0 (take n w) (binary-take n w e))
       (last_long, binary-stream undo2 (drop (2 * n) w) (binary-drop (2 * n) w e))
 
--- the same stream added, at the taps that a call gave
-by_taps : (q xs b ts us : List ℕ) → ts ≡ us → q ≡ xor xs (stream ts b) → q ≡ xor xs (stream us b)
-by_taps q xs b ts us e f = f ∙ ap (λ (vs : List ℕ). xor xs (stream vs b)) e
+-- streams added one after the other, to the parts that begin at j * length b
+module _ (b : List ℕ) where
+  abbrev pub streams : List (List ℕ) → List ℕ
+  streams tss = flat_map (λ ts. stream ts b) tss
 
-pub added_word : (b xs ts us vs p q r w1 w2 : List ℕ) → length xs ≡ 3 * length b → ts ≡ taps_of 0 → us ≡ taps_of 1 → vs ≡ taps_of 2
-    → p ≡ xor (take (length b) xs) (stream ts b) → w1 ≡ p ++ drop (length b) xs
-    → q ≡ xor (take (2 * length b - length b) (drop (length b) w1)) (stream us b) → w2 ≡ put_mid (length b) (2 * length b - length b) w1 q
-    → r ≡ xor (take (length w2 - 2 * length b) (drop (2 * length b) w2)) (stream vs b)
-    → put_mid (2 * length b) (length w2 - 2 * length b) w2 r ≡ xor xs (coded b)
-unfolding coded
-added_word b xs ts us vs p q r w1 w2 long ts_is us_is vs_is p_is w1_is q_is w2_is r_is =
-    added_three xs (stream (taps_of 0) b) (stream (taps_of 1) b) (stream (taps_of 2) b) p q r w1 w2 (length b) long
-    (length-stream (taps_of 0) b) (length-stream (taps_of 1) b) (length-stream (taps_of 2) b)
-    (by_taps p (take (length b) xs) b ts (taps_of 0) ts_is p_is) w1_is
-    (by_taps q (take (2 * length b - length b) (drop (length b) w1)) b us (taps_of 1) us_is q_is) w2_is
-    (by_taps r (take (length w2 - 2 * length b) (drop (2 * length b) w2)) b vs (taps_of 2) vs_is r_is)
+  length-streams : (tss : List (List ℕ)) → length (streams tss) ≡ length tss * length b
+  length-streams [] = sym (zero-mul (length b))
+  length-streams (ts ∷ tss) =
+      omega (arith, length-append (stream ts b) (streams tss), length-stream ts b, length-streams tss, suc-mul (length tss) (length b))
+
+  pub streams_more : (tss : List (List ℕ)) (j : ℕ) (w w1 part : List ℕ) → j < length tss → length w ≡ length tss * length b
+      → w1 ≡ xor w (streams (take j tss))
+      → part ≡ xor (take ((j + 1) * length b - j * length b) (drop (j * length b) w1)) (stream (get_or tss j []) b)
+      → put_mid (j * length b) ((j + 1) * length b - j * length b) w1 part ≡ xor w (streams (take (j + 1) tss))
+  streams_more tss j w w1 part h long w1_is part_is =
+      let n = length b in
+      let ts = get_or tss j [] in
+      let next : (j + 1) * n ≡ j * n + n = ap (λ m. m * n) (add-one j) ∙ suc-mul j n in
+      let room : (j + 1) * n ≤ length tss * n = mul-le-mul_right n (omega arith) in
+      added_next w (streams (take j tss)) (stream ts b) w1 part (j * n) ((j + 1) * n - j * n)
+      (length-streams (take j tss) ∙ ap (λ m. m * n) (length-take-le j tss (omega arith)))
+      (omega (arith, length-stream ts b)) (omega arith) w1_is part_is
+      ∙ ap (xor w) (flat_map_more (λ ts. stream ts b) [] (take j tss) ts ∙ ap streams (sym (take_more tss j [] h)))
+
+  pub streams-all : streams (taps_of 0 ∷ taps_of 1 ∷ taps_of 2 ∷ []) ≡ coded b
+  unfolding coded
+  streams-all = ap (λ us. stream (taps_of 0) b ++ (stream (taps_of 1) b ++ us)) (append-nil (stream (taps_of 2) b))
 
 -- two streams of a word added to zeros
-pub undo_added : (w f g h ts us : List ℕ) (n : ℕ) → length w ≡ 3 * n → ts ≡ undo0 → us ≡ undo2 → f ≡ zeros n
-    → g ≡ xor f (stream ts (take n w)) → h ≡ xor g (stream us (take (length w - 2 * n) (drop (2 * n) w))) → h ≡ uncoded n w
-undo_added w f g h ts us n l ts_is us_is f_is g_is h_is =
-    let first : g ≡ stream undo0 (take n w) =
-    by_taps g f (take n w) ts undo0 ts_is g_is ∙ ap (λ (x : List ℕ). xor x (stream undo0 (take n w))) f_is
-    ∙ zeros-xor n (stream undo0 (take n w)) (omega (arith, front_long n w l)) in
-    by_taps h g (take (length w - 2 * n) (drop (2 * n) w)) us undo2 us_is h_is
-    ∙ ap₂ (λ (x y : List ℕ). xor x (stream undo2 y)) first (take_rest w (2 * n))
+pub undo_added : (w f g h : List ℕ) (n : ℕ) → length w ≡ 3 * n → f ≡ zeros n → g ≡ xor f (stream undo0 (take n w))
+    → h ≡ xor g (stream undo2 (take (length w - 2 * n) (drop (2 * n) w))) → h ≡ uncoded n w
+undo_added w f g h n l f_is g_is h_is =
+    h_is
+    ∙ ap₂ (λ (x y : List ℕ). xor x (stream undo2 y))
+    (g_is ∙ ap (λ (x : List ℕ). xor x (stream undo0 (take n w))) f_is
+    ∙ zeros-xor n (stream undo0 (take n w)) (omega (arith, front_long n w l)))
+    (take_rest w (2 * n))
 
 -- the word of a block added to zeros
-module _ (n : ℕ) (work side p z r : List ℕ) (room : 3 * n ≤ length work) (p_is : p ≡ take n work) (z_is : z ≡ zeros (length work))
-    (r_is : r ≡ xor (take (3 * n) z) (coded (take n (p ++ drop n side)))) where
-  copied_long : length (take n work) ≡ n
-  copied_long = length-take-le n work (omega arith)
-
-  new_long : length (coded (take n work)) ≡ 3 * n
-  new_long = omega (arith, length-coded (take n work), copied_long)
-
-  copied : take n (p ++ drop n side) ≡ take n work
-  copied = take_at p (drop n side) n (ap length p_is ∙ copied_long) ∙ p_is
-
-  zeroed : take (3 * n) z ≡ zeros (3 * n)
-  zeroed = ap (take (3 * n)) z_is ∙ take-replicate (3 * n) (length work) 0 room
-
-  new_word : r ≡ coded (take n work)
-  new_word = r_is ∙ ap₂ (λ x y. xor x (coded y)) zeroed copied ∙ zeros-xor (3 * n) (coded (take n work)) (omega (arith, new_long))
-
-  past_word : drop (3 * n) z ≡ zeros (length work - length (coded (take n work)))
-  past_word =
-      ap (drop (3 * n)) z_is ∙ drop-replicate (3 * n) (length work) 0 ∙ ap (λ k. zeros (length work - k)) (sym new_long)
-
-  pub encoded : r ++ drop (3 * n) z ≡ padded (coded (take n work)) (length work)
-  encoded = ap₂ (λ x y. x ++ y) new_word past_word
+pub encoded : (n : ℕ) (work p z r : List ℕ) → 3 * n ≤ length work → p ≡ take n work → z ≡ zeros (length work)
+    → r ≡ xor (take (3 * n) z) (coded p) → r ++ drop (3 * n) z ≡ padded (coded (take n work)) (length work)
+encoded n work p z r room p_is z_is r_is =
+    let word = coded (take n work) in
+    let long : length word ≡ 3 * n = omega (arith, length-coded (take n work), length-take-le n work (omega arith)) in
+    let zeroed : take (3 * n) z ≡ zeros (3 * n) = ap (take (3 * n)) z_is ∙ take-replicate (3 * n) (length work) 0 room in
+    let new : r ≡ word = r_is ∙ ap₂ (λ x y. xor x (coded y)) zeroed p_is ∙ zeros-xor (3 * n) word (omega arith) in
+    ap₂ (λ x y. x ++ y) new
+    (ap (drop (3 * n)) z_is ∙ drop-replicate (3 * n) (length work) 0 ∙ ap (λ k. zeros (length work - k)) (sym long))
 
 -- the word of the block that was found, added to the word
-module _ (n : ℕ) (work side s r : List ℕ) (room : 3 * n ≤ length work) (side_room : n ≤ length side)
-    (s_is : s ≡ uncoded (length (take n side)) (take (3 * n) work))
-    (r_is : r ≡ xor (take (3 * n) work) (coded (take n (s ++ drop n side)))) where
+module _ (n m : ℕ) (work s r : List ℕ) (room : 3 * n ≤ length work) (m_is : m ≡ n) (s_is : s ≡ uncoded m (take (3 * n) work))
+    (r_is : r ≡ xor (take (3 * n) work) (coded s)) (z : Bool) (z_is : IsTrue z ↔ (r ≡ zeros (length r))) where
   abbrev word : List ℕ
   word = take (3 * n) work
 
@@ -151,49 +146,38 @@ module _ (n : ℕ) (work side s r : List ℕ) (room : 3 * n ≤ length work) (si
   block_long : length block ≡ n
   block_long = length-uncoded n word word_long
 
-  coded_long : length (coded block) ≡ 3 * n
-  coded_long = omega (arith, length-coded block, block_long)
+  same_long : length word ≡ length (coded block)
+  same_long = omega (arith, word_long, length-coded block, block_long)
 
-  found : take n (s ++ drop n side) ≡ block
-  found =
-      let is : s ≡ block = s_is ∙ ap (λ (k : ℕ). uncoded k word) (length-take-le n side side_room) in
-      take_at s (drop n side) n (ap length is ∙ block_long) ∙ is
+  found : s ≡ block
+  found = s_is ∙ ap (λ k. uncoded k word) m_is
 
   r_sum : r ≡ xor word (coded block)
-  r_sum = r_is ∙ ap (λ (x : List ℕ). xor word (coded x)) found
+  r_sum = r_is ∙ ap (λ x. xor word (coded x)) found
 
-  r_long : length r ≡ 3 * n
-  r_long = ap length r_sum ∙ length_xor_same word (coded block) (word_long ∙ sym coded_long) ∙ word_long
-
-  left : take (3 * n) (r ++ drop (3 * n) work) ≡ r
-  left = take_at r (drop (3 * n) work) (3 * n) r_long
+  r_long : length r ≡ length word
+  r_long = ap length r_sum ∙ length_xor_same word (coded block) same_long
 
   work_long : length (r ++ drop (3 * n) work) ≡ length work
-  work_long = omega (arith, length-append r (drop (3 * n) work), length-drop (3 * n) work, r_long)
+  work_long = omega (arith, length-append r (drop (3 * n) work), length-drop (3 * n) work, r_long, word_long)
 
-  module _ (z : Bool)
-      (z_is : Decides z (take (3 * n) (r ++ drop (3 * n) work) ≡ zeros (length (take (3 * n) (r ++ drop (3 * n) work))))) where
-    -- nothing is left of the word: the block takes its place
-    pub decoded : z ≡ true → (p w : List ℕ) → p ≡ take n (s ++ drop n side)
-        → w ≡ padded (take n (p ++ drop n (r ++ drop (3 * n) work))) (length (p ++ drop n (r ++ drop (3 * n) work)))
-        → (coded block ≡ word) × (w ≡ padded block (length work))
-    decoded e p w p_is w_is = (
-      xor_none word (coded block) (word_long ∙ sym coded_long)
-          (sym r_sum ∙ sym left ∙ z_is.0 e ∙ ap (λ (x : List ℕ). zeros (length x)) left ∙ ap zeros (r_long ∙ sym word_long)),
-      front_cleared (r ++ drop (3 * n) work) p w n n refl (ap length (p_is ∙ found) ∙ block_long) (omega (arith, work_long)) w_is
-          ∙ ap₂ padded (p_is ∙ found) work_long,
-    )
+  -- nothing is left of the word: the block takes its place
+  pub decoded : z ≡ true → (p w : List ℕ) → p ≡ s
+      → w ≡ padded (take n (p ++ drop n (r ++ drop (3 * n) work))) (length (p ++ drop n (r ++ drop (3 * n) work)))
+      → (coded block ≡ word) × (w ≡ padded block (length work))
+  decoded e p w p_is w_is = (
+    xor_none word (coded block) same_long (sym r_sum ∙ z_is.0 e ∙ ap zeros r_long),
+    front_cleared (r ++ drop (3 * n) work) p w n n refl (ap length (p_is ∙ found) ∙ block_long) (omega (arith, work_long)) w_is
+        ∙ ap₂ padded (p_is ∙ found) work_long,
+  )
 
-    -- something is left: what was added is added again
-    pub not_decoded : z ≡ false → (q w : List ℕ) → q ≡ xor (take (3 * n) (r ++ drop (3 * n) work)) (coded (take n (s ++ drop n side)))
-        → w ≡ padded (take (3 * n) (q ++ drop (3 * n) (r ++ drop (3 * n) work))) (length (q ++ drop (3 * n) (r ++ drop (3 * n) work)))
-        → (◌≡◌ {A = StageFault} NoBlock NoBlock) × (coded block ≢ word) × (w ≡ padded word (length work))
-    not_decoded e q w q_is w_is =
-        let back : q ≡ word =
-        q_is ∙ ap₂ (λ x y. xor x (coded y)) (left ∙ r_sum) found ∙ xor_back word (coded block) (omega (arith, coded_long, word_long)) in (
-          refl,
-          (λ same. false≢true (sym e ∙ z_is.1 (left ∙ r_sum ∙ ap (xor word) same ∙ xor_self word
-              ∙ ap zeros (word_long ∙ sym r_long ∙ sym (ap length left))))),
-          front_cleared (r ++ drop (3 * n) work) q w (3 * n) (3 * n) refl (ap length back ∙ word_long) (omega (arith, work_long)) w_is
-              ∙ ap₂ padded back work_long,
-        )
+  -- something is left: what was added is added again
+  pub not_decoded : z ≡ false → (q w : List ℕ) → q ≡ xor r (coded s)
+      → w ≡ padded (take (3 * n) (q ++ drop (3 * n) work)) (length (q ++ drop (3 * n) work))
+      → (coded block ≢ word) × (w ≡ padded word (length work))
+  not_decoded e q w q_is w_is =
+      let back : q ≡ word =
+      q_is ∙ ap₂ (λ x y. xor x (coded y)) r_sum found ∙ xor_back word (coded block) (omega (arith, same_long)) in (
+        (λ same. false≢true (sym e ∙ z_is.1 (r_sum ∙ ap (xor word) same ∙ xor_self word ∙ ap zeros (sym r_long)))),
+        front_cleared work q w (3 * n) (3 * n) refl (ap length back ∙ word_long) (omega arith) w_is ∙ ap (λ x. padded x (length work)) back,
+      )

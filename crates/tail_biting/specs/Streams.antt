@@ -137,17 +137,12 @@ tapped-xor a b (t ∷ ts) k e =
     ∙ bit_medial (slice_index a (behind (length a) k t)) (slice_index b (behind (length b) k t)) (tapped a ts k) (tapped b ts k)
 
 pub stream-xor : (ts a b : List ℕ) → length a ≡ length b → stream ts (xor a b) ≡ xor (stream ts a) (stream ts b)
+unfolding stream
 stream-xor ts a b e =
-    let l = length_xor_same a b e in
-    let la = length-stream ts a in
-    let lb = length-stream ts b in
-    let lx = length-stream ts (xor a b) in
-    let ly = length_xor_same (stream ts a) (stream ts b) (omega arith) in
-    ext_get_or 0 (stream ts (xor a b)) (xor (stream ts a) (stream ts b)) (omega arith) (λ k i.
-    slice_index-stream ts (xor a b) k (omega arith)
-    ∙ tapped-xor a b ts k e
-    ∙ ap₂ bit_xor (sym (slice_index-stream ts a k (omega arith))) (sym (slice_index-stream ts b k (omega arith)))
-    ∙ sym (slice_index-xor (stream ts a) (stream ts b) k))
+    ap (λ n. map (tapped (xor a b) ts) (range_with_len 0 n)) (length_xor_same a b e)
+    ∙ map_congr_left (λ k m. tapped-xor a b ts k e)
+    ∙ sym (xor_counted (tapped a ts) (tapped b ts) 0 (length a))
+    ∙ ap (λ n. xor (map (tapped a ts) (range_with_len 0 (length a))) (map (tapped b ts) (range_with_len 0 n))) e
 
 -- the streams of bits are bits
 tapped-bit : (b ts : List ℕ) (k : ℕ) → 0 < length b → binary b ≡ true → tapped b ts k < 2

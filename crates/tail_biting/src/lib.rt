@@ -1,10 +1,10 @@
 #![tactic(auto)]
 
-ghost use Rattle.std.specs.Prelude.{◌≡◌, ◌*◌, ◌<◌, ◌≤◌, [], ◌∷◌, length, take, Decides, MatchResult, ◌≢◌};
+ghost use Rattle.std.specs.Prelude.{◌≡◌, ◌*◌, ◌≤◌, ◌↔◌, [], ◌∷◌, length, take, IsTrue, OnOk, OnErr, IfErr, ◌≢◌};
 ghost use Rattle.std.specs.List.{AllByRecursion};
 ghost use Rattle.stage.specs.Bits.{xor, zeros, padded};
 ghost use Rattle.stage.specs.declared.fault.StageFault.TheVariants.{NoBlock};
-ghost use Rattle.tail_biting.specs.Coding.{coding, coded, uncoded, stream, taps_of, undo0, undo2};
+ghost use Rattle.tail_biting.specs.Coding.{coding, coded, uncoded, stream};
 ghost use Rattle.tail_biting.specs.TailBites.{coding_lawful};
 
 use stage::admission::{admit_back, admit_forward};
@@ -20,6 +20,15 @@ const SHORTEST: usize = 7;
 // The length of the longest one.
 const LONGEST: usize = 2560;
 
+// The taps of each stream.
+const TAPS: [[usize; 5]; 3] = [[0, 2, 3, 5, 6], [0, 1, 2, 3, 6], [0, 1, 2, 4, 6]];
+
+// The taps that undo stream 0.
+const UNDO_0: [usize; 2] = [1, 3];
+
+// The taps that undo stream 2.
+const UNDO_2: [usize; 3] = [0, 2, 3];
+
 // The tail-biting convolutional code of rate 1/3: three streams of a block, one after the other.
 #[derive(Clone, Copy)]
 pub struct TailBitingCode {}
@@ -30,7 +39,7 @@ impl Stage for TailBitingCode {
     ghost lawful = { λ _. coding_lawful };
 
     fn length(&self, n: usize, s: Setting) -> usize {
-        if n < SHORTEST || n > LONGEST || !s.in_range() {
+        if !(SHORTEST..=LONGEST).contains(&n) || !s.in_range() {
             return 0;
         }
         3 * n
@@ -77,9 +86,10 @@ fn encode(work: &mut [u8], side: &mut [u8], n: usize)
     requires side_room { n ≤ length side.old }
     ensures { work.new ≡ padded (coded (take n work.old)) (length work.old) }
 {
-    side[..n].copy_from_slice(&work[..n]);
+    let block = &mut side[..n];
+    block.copy_from_slice(&work[..n]);
     work.fill(0);
-    add_word(&side[..n], &mut work[..3 * n]);
+    add_word(block, &mut work[..3 * n]);
 }
 
 // Replaces the word in the first 3n bytes of `work` by its block, and zeroes the rest. Where no block
@@ -88,22 +98,23 @@ fn decode(work: &mut [u8], side: &mut [u8], n: usize) -> Result<(), StageFault>
     requires least { 7 ≤ n }
     requires work_room { 3 * n ≤ length work.old }
     requires side_room { n ≤ length side.old }
-    ensures { MatchResult result
-        (λ _. (coded (uncoded n (take (3 * n) work.old)) ≡ take (3 * n) work.old)
-        × (work.new ≡ padded (uncoded n (take (3 * n) work.old)) (length work.old)))
-        (λ f. (f ≡ NoBlock)
-        × (coded (uncoded n (take (3 * n) work.old)) ≢ take (3 * n) work.old)
-        × (work.new ≡ padded (take (3 * n) work.old) (length work.old))) }
+    ensures found { OnOk result (coded (uncoded n (take (3 * n) work.old)) ≡ take (3 * n) work.old) }
+    ensures block { OnOk result (work.new ≡ padded (uncoded n (take (3 * n) work.old)) (length work.old)) }
+    ensures fault { IfErr result (λ f. f ≡ NoBlock) }
+    ensures lacking { OnErr result (coded (uncoded n (take (3 * n) work.old)) ≢ take (3 * n) work.old) }
+    ensures word { OnErr result (work.new ≡ padded (take (3 * n) work.old) (length work.old)) }
 {
-    find_block(&work[..3 * n], &mut side[..n]);
-    add_word(&side[..n], &mut work[..3 * n]);
-    if !is_zero(&work[..3 * n]) {
+    let block = &mut side[..n];
+    let word = &mut work[..3 * n];
+    find_block(word, block);
+    add_word(block, word);
+    if !is_zero(word) {
         // The found block has another word: what was added is taken away.
-        add_word(&side[..n], &mut work[..3 * n]);
+        add_word(block, word);
         clear_from(work, 3 * n);
         return Err(StageFault::NoBlock);
     }
-    work[..n].copy_from_slice(&side[..n]);
+    work[..n].copy_from_slice(block);
     clear_from(work, n);
     Ok(())
 }
@@ -115,9 +126,9 @@ fn add_word(block: &[u8], out: &mut [u8])
     ensures { out.new ≡ xor out.old (coded block.now) }
 {
     let n = block.len();
-    add_stream(block, &taps_of(0), &mut out[..n]);
-    add_stream(block, &taps_of(1), &mut out[n..2 * n]);
-    add_stream(block, &taps_of(2), &mut out[2 * n..]);
+    for (j, taps) in TAPS.iter().enumerate() {
+        add_stream(block, taps, &mut out[j * n..(j + 1) * n]);
+    }
 }
 
 // Writes to `block` the one block that can have this word.
@@ -128,8 +139,8 @@ fn find_block(word: &[u8], block: &mut [u8])
 {
     let n = block.len();
     block.fill(0);
-    add_stream(&word[..n], &undo_taps_0(), block);
-    add_stream(&word[2 * n..], &undo_taps_2(), block);
+    add_stream(&word[..n], &UNDO_0, block);
+    add_stream(&word[2 * n..], &UNDO_2, block);
 }
 
 // Adds the stream of a block at these taps to `out`.
@@ -164,40 +175,9 @@ fn add_bits(bits: &[u8], out: &mut [u8])
     }
 }
 
-// The taps of stream 0, 1 or 2.
-fn taps_of(j: usize) -> [usize; 5]
-    requires { j < 3 }
-    ensures { result ≡ taps_of j }
-{
-    match j {
-        0 => [0, 2, 3, 5, 6],
-        1 => [0, 1, 2, 3, 6],
-        _ => [0, 1, 2, 4, 6],
-    }
-}
-
-// The taps that undo stream 0.
-fn undo_taps_0() -> [usize; 2]
-    ensures { result ≡ undo0 }
-{
-    [1, 3]
-}
-
-// The taps that undo stream 2.
-fn undo_taps_2() -> [usize; 3]
-    ensures { result ≡ undo2 }
-{
-    [0, 2, 3]
-}
-
 // Whether all bits are 0.
 fn is_zero(bits: &[u8]) -> bool
-    ensures { Decides result (bits.now ≡ zeros (length bits.now)) }
+    ensures { IsTrue result ↔ (bits.now ≡ zeros (length bits.now)) }
 {
-    for bit in bits {
-        if *bit != 0 {
-            return false;
-        }
-    }
-    true
+    bits.iter().all(|bit| *bit == 0)
 }

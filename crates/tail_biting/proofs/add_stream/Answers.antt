@@ -1,13 +1,6 @@
-use Rattle.std.proofs.Common.{◌≤◌, length, arith}
-use Rattle.std.proofs.ByRecursion.{All-get_or}
+use Rattle.std.proofs.Common.{arith}
 use Rattle.tail_biting.specs.Streams.{added_taps_more, added_taps_all}
 use Rattle.tail_biting.proofs.add_stream.Goals as goal
-
-pub add_tap-requires : goal.add_tap-requires
-add_tap-requires c = record {
-  near = All-get_or (λ t. t ≤ length c.args.block.now) c.args.taps.now c.loop-t.t-index 0 (omega arith) c.requires.near;
-  same = omega arith;
-}
 
 pub loop-t-preserved : goal.loop-t-preserved
 loop-t-preserved c =

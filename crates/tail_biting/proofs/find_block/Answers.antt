@@ -4,6 +4,5 @@ use Rattle.tail_biting.proofs.find_block.Goals as goal
 
 pub returns : goal.returns
 returns c =
-    undo_added c.args.word.now c.fill.new.self c.add_stream.new.out c.add_stream-2.new.out
-    c.undo_taps_0.result c.undo_taps_2.result (length c.args.block.now) c.requires.same
-    c.undo_taps_0.ensures c.undo_taps_2.ensures (c.fill.ensures.after (λ y e. e)) c.add_stream.ensures c.add_stream-2.ensures
+    undo_added c.args.word.now c.fill.new.self c.add_stream.new.out c.add_stream-2.new.out (length c.args.block.now)
+    c.requires.same (c.fill.ensures.after (λ y e. e)) c.add_stream.ensures c.add_stream-2.ensures

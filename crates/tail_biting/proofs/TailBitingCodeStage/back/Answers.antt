@@ -10,7 +10,7 @@ returns-in_err-decode c =
     (code_lacks c.args.n c.args.s c.args.work.now c.args.side.now c.length-m.result c.length-m.ensures
     c.covers.result c.covers.ensures c.in_ok-admit_back.ensures
     c.decode.new.work c.drop-guard.new.self.0 c.decode.new.side c.decode.auto.side c.drop-guard.ensures
-    c.in_err-decode.field-0.0 e.0 e.1 e.2)
+    c.in_err-decode.field-0.0 e.fault e.lacking e.word)
 
 pub returns : goal.returns
 returns c =
@@ -18,4 +18,4 @@ returns c =
     code_finds c.args.n c.args.s c.args.work.now c.args.side.now c.length-m.result c.length-m.ensures
     c.covers.result c.covers.ensures c.in_ok-admit_back.ensures
     c.decode.new.work c.drop-guard-2.new.self.0 c.decode.new.side c.decode.auto.side c.drop-guard-2.ensures
-    e.0 e.1
+    e.found e.block
