@@ -59,37 +59,31 @@ scrambling_lawful = record {
   apart = λ n e a b h cov p q same. same;
 }
 
-module _ (n : ℕ) (s : Setting) (work side : List ℕ) (k : ℕ) (k_is : k ≡ word_length scrambling n s) (j : ℕ) (j_is : j ≡ n)
-    (part w d : List ℕ) (part_is : part ≡ xor (take j work) (sequence s.seed (length (take j work))))
-    (w_is : w ≡ padded (take n (part ++ drop j work)) (length (part ++ drop j work))) (d_is : d ≡ zeros (length side)) where
-  -- the front with the sequence added, and zeros past it
-  left : n ≤ length work → (part ≡ xor (take n work) (sequence s.seed n)) × (length part ≡ n) × (w ≡ padded part (length work))
-  left room =
-      let l : length (take n work) ≡ n = length-take-le n work room in
-      let is : part ≡ xor (take n work) (sequence s.seed n) =
-      part_is ∙ ap (λ m. xor (take m work) (sequence s.seed (length (take m work)))) j_is
-      ∙ ap (λ m. xor (take n work) (sequence s.seed m)) l in
-      let long : length part ≡ n =
-      ap length is ∙ length_xor_same (take n work) (sequence s.seed n) (l ∙ sym (length-sequence s.seed n)) ∙ l in
-      (is, long, front_cleared work part w n j j_is long room w_is)
+-- the front with the sequence added, and zeros past it, as the code has it
+pub added_front : (work part w : List ℕ) (seed n : ℕ) → n ≤ length work → part ≡ xor (take n work) (sequence seed (length (take n work)))
+    → w ≡ padded (take n (part ++ drop n work)) (length (part ++ drop n work)) → w ≡ padded (xor (take n work) (sequence seed n)) (length work)
+added_front work part w seed n room part_is w_is =
+    let l : length (take n work) ≡ n = length-take-le n work room in
+    let is : part ≡ xor (take n work) (sequence seed n) = part_is ∙ ap (λ m. xor (take n work) (sequence seed m)) l in
+    let long : length part ≡ n = ap length is ∙ length_xor_same (take n work) (sequence seed n) (l ∙ sym (length-sequence seed n)) ∙ l in
+    front_cleared work part w n n refl long room w_is ∙ ap (λ x. padded x (length work)) is
 
+module _ (n : ℕ) (s : Setting) (work side : List ℕ) (k : ℕ) (k_is : k ≡ word_length scrambling n s) (w d : List ℕ)
+    (w_is : w ≡ padded (xor (take n work) (sequence s.seed n)) (length work)) (d_is : d ≡ zeros (length side)) where
   pub scramble_forward : None ≡ first_fault (forward_tests n s k work side) → Forward scrambling n s work side w d (Ok n)
   scramble_forward passes =
       let r = ready scrambling_lawful n s work side k k_is passes in
-      let q = left (omega arith) in
       let k_n : k ≡ n = r.word_is ∙ size_is n s.output r.opened.some in
       subst (λ m. Forward scrambling n s work side w d (Ok m)) k_n
-      (framed_forward scrambling_lawful n s work side k k_is passes w d (q.2 ∙ ap (λ x. padded x (length work)) q.0) d_is)
+      (framed_forward scrambling_lawful n s work side k k_is passes w d w_is d_is)
 
   pub scramble_back : (c : Bool) → c ≡ covering scrambling n s → None ≡ first_fault (back_tests s k c work side) → Back scrambling n s work side w d (Ok n)
   scramble_back c c_is passes =
       let r = ready_back scrambling_lawful n s work side k k_is c c_is passes in
       let k_n : k ≡ n = r.word_is ∙ size_is n s.output r.opened.some in
-      let q = left (omega arith) in
       let front : Bits n (take n work) = subst (λ m. Bits m (take m work)) k_n r.bits in
       let seq = sequence_bits s.seed n in
-      framed_found scrambling_lawful n s work side k k_is c c_is passes w d d_is part
-      (subst (Bits n) (sym q.0) (xor_bits n (take n work) (sequence s.seed n) front seq))
-      (ap (λ x. xor x (sequence s.seed n)) q.0 ∙ xor_back (take n work) (sequence s.seed n) (omega (arith, front.0, seq.0))
-      ∙ ap (λ m. take m work) (sym k_n))
-      q.2
+      framed_found scrambling_lawful n s work side k k_is c c_is passes w d d_is (xor (take n work) (sequence s.seed n))
+      (xor_bits n (take n work) (sequence s.seed n) front seq)
+      (xor_back (take n work) (sequence s.seed n) (omega (arith, front.0, seq.0)) ∙ ap (λ m. take m work) (sym k_n))
+      w_is

@@ -1,5 +1,5 @@
 -- Selection is lawful, and what its calls leave. Assumes nothing.
-use Rattle.std.specs.Prelude.{◌≡◌, ℕ, ◌%◌, ◌<◌, ◌≤◌, Bool, cond, ◌&&◌, List, ◌++◌, length, take, drop, None, Ok, Err, ◌≢◌, slice_index}
+use Rattle.std.specs.Prelude.{◌≡◌, ℕ, ◌%◌, ◌<◌, ◌≤◌, Bool, cond, ◌&&◌, List, ◌++◌, length, take, drop, None, Ok, Err, ◌≢◌, slice_index, refl}
 use Rattle.std.proofs.Common.{sym, ap, subst, ◌∙◌, arith}
 use Rattle.std.proofs.Math.Nat.{mod-le}
 use Rattle.std.proofs.lemmas.Bool.{and_parts, leb-true}
@@ -64,27 +64,26 @@ ring_front n m work pos fits room =
     ∙ sym (slice_index_selected n m (take n work) k low ∙ get_or-take n work (k % n) 0 i))
 
 module _ (n : ℕ) (s : Setting) (work side : List ℕ) (k : ℕ) (k_is : k ≡ word_length selecting n s) where
-  at_part : (j : ℕ) → j ≡ k → k ≤ length work → gathered (ring n (length (take j work))) (take j work) ≡ gathered (ring n k) (take k work)
-  at_part j same room =
-      ap (λ i. gathered (ring n (length (take i work))) (take i work)) same
-      ∙ ap (λ i. gathered (ring n i) (take k work)) (length-take-le k work room)
+  front_ring : k ≤ length work → gathered (ring n (length (take k work))) (take k work) ≡ gathered (ring n k) (take k work)
+  front_ring room = ap (λ i. gathered (ring n i) (take k work)) (length-take-le k work room)
 
-  pub select_forward : None ≡ first_fault (forward_tests n s k work side) → (j : ℕ) → j ≡ k → (part w d : List ℕ)
-      → part ≡ gathered (ring n (length (take j work))) (take j work)
-      → w ≡ padded (take k (part ++ drop j work)) (length (part ++ drop j work)) → d ≡ zeros (length side)
+  pub select_forward : None ≡ first_fault (forward_tests n s k work side) → (part w d : List ℕ)
+      → part ≡ gathered (ring n (length (take k work))) (take k work)
+      → w ≡ padded (take k (part ++ drop k work)) (length (part ++ drop k work)) → d ≡ zeros (length side)
       → Forward selecting n s work side w d (Ok k)
-  select_forward passes j same part w d part_is w_is d_is =
+  select_forward passes part w d part_is w_is d_is =
       let r = ready selecting_lawful n s work side k k_is passes in
       let e_is : k ≡ s.output = r.word_is ∙ size_is n s.output r.opened.some in
+      let ringed : part ≡ gathered (ring n k) (take k work) = part_is ∙ front_ring (omega arith) in
       let is : part ≡ word selecting n s.output s.seed (take n work) =
-      part_is ∙ at_part j same (omega arith) ∙ ring_front n k work r.some (omega arith) (omega arith)
+      ringed ∙ ring_front n k work r.some (omega arith) (omega arith)
       ∙ ap (λ i. gathered (ring n i) (take n work)) e_is
       ∙ sym (selected_word n s.output s.seed r.opened.some (take n work) r.bits) in
-      let long : length part ≡ k = ap length (part_is ∙ at_part j same (omega arith)) ∙ length_selected n k (take k work) in
+      let long : length part ≡ k = ap length ringed ∙ length_selected n k (take k work) in
       framed_forward selecting_lawful n s work side k k_is passes w d
-      (front_cleared work part w k j same long (omega arith) w_is ∙ ap (λ x. padded x (length work)) is) d_is
+      (front_cleared work part w k k refl long (omega arith) w_is ∙ ap (λ x. padded x (length work)) is) d_is
 
-  module _ (c : Bool) (c_is : c ≡ covering selecting n s) (passes : None ≡ first_fault (back_tests s k c work side)) (j : ℕ) (same : j ≡ k)
+  module _ (c : Bool) (c_is : c ≡ covering selecting n s) (passes : None ≡ first_fault (back_tests s k c work side))
       (w d : List ℕ) (d_is : d ≡ zeros (length side)) where
     here : ReadyBack selecting_lawful n s work side k k_is c c_is
     here = ready_back selecting_lawful n s work side k k_is c c_is passes
@@ -108,18 +107,17 @@ module _ (n : ℕ) (s : Setting) (work side : List ℕ) (k : ℕ) (k_is : k ≡ 
     word_of b h =
         selected_word n s.output s.seed here.opened.some b h ∙ ap (λ i. gathered (ring n i) b) (sym e_here)
 
-    pub select_finds : take j work ≡ gathered (ring n (length (take j work))) (take j work) → w ≡ padded (take n work) (length work)
+    pub select_finds : take k work ≡ gathered (ring n (length (take k work))) (take k work) → w ≡ padded (take n work) (length work)
         → Back selecting n s work side w d (Ok n)
     select_finds round w_is =
         framed_found selecting_lawful n s work side k k_is c c_is passes w d d_is (take n work) front_bits
         (word_of (take n work) front_bits ∙ sym (ring_front n k work here.some (let a = n_k in let b = room in omega arith) room)
-        ∙ sym (at_part j same room) ∙ sym round ∙ ap (λ i. take i work) same)
+        ∙ sym (front_ring room) ∙ sym round)
         w_is
 
-    pub select_lacks : (take j work ≢ gathered (ring n (length (take j work))) (take j work)) → w ≡ padded (take k work) (length work)
+    pub select_lacks : (take k work ≢ gathered (ring n (length (take k work))) (take k work)) → w ≡ padded (take k work) (length work)
         → Back selecting n s work side w d (Err NoBlock)
     select_lacks breaks w_is =
         framed_lacking selecting_lawful n s work side k k_is c c_is passes w d d_is
-        (λ b h is. breaks
-        (ap (λ i. take i work) same ∙ ring_self n k (take k work) b here.some (sym (word_of b h) ∙ is) ∙ sym (at_part j same room)))
+        (λ b h is. breaks (ring_self n k (take k work) b here.some (sym (word_of b h) ∙ is) ∙ sym (front_ring room)))
         w_is

@@ -1,5 +1,5 @@
-ghost use Rattle.std.specs.Prelude.{◌≡◌, length};
-ghost use Rattle.stage.specs.Bits.{xor};
+ghost use Rattle.std.specs.Prelude.{◌≡◌, ◌≤◌, length, take};
+ghost use Rattle.stage.specs.Bits.{xor, zeros, padded};
 ghost use Rattle.gold.specs.Sequence.{sequence};
 ghost use Rattle.chain.specs.Scrambling.{scrambling};
 ghost use Rattle.chain.specs.Scrambles.{scrambling_lawful};
@@ -40,9 +40,7 @@ impl Stage for Scrambler {
         side: &mut [u8],
     ) -> Result<usize, StageFault> {
         admit_forward(n, s, self.length(n, s), work, side)?;
-        let _guard = Cleared { bytes: side };
-        add_sequence(&mut work[0..n], s.seed);
-        clear_from(work, n);
+        scramble(n, s.seed, work, side);
         Ok(n)
     }
 
@@ -54,11 +52,20 @@ impl Stage for Scrambler {
         side: &mut [u8],
     ) -> Result<usize, StageFault> {
         admit_back(s, self.length(n, s), self.covers(n, s), work, side)?;
-        let _guard = Cleared { bytes: side };
-        add_sequence(&mut work[0..n], s.seed);
-        clear_from(work, n);
+        scramble(n, s.seed, work, side);
         Ok(n)
     }
+}
+
+// Adds the sequence to the first n bytes, and zeroes all else: past the tests, both ways do the same.
+fn scramble(n: usize, seed: u32, work: &mut [u8], side: &mut [u8])
+    requires { n ≤ length work.old }
+    ensures work { work.new ≡ padded (xor (take n work.old) (sequence seed n)) (length work.old) }
+    ensures side { side.new ≡ zeros (length side.old) }
+{
+    let _guard = Cleared { bytes: side };
+    add_sequence(&mut work[..n], seed);
+    clear_from(work, n);
 }
 
 // Adds c(0), c(1) and so on of a seed to the bits of a slice.

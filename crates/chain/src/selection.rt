@@ -1,4 +1,4 @@
-ghost use Rattle.std.specs.Prelude.{◌≡◌, ℕ, ◌<◌, length, Decides};
+ghost use Rattle.std.specs.Prelude.{◌≡◌, ◌<◌, ◌≤◌, ◌↔◌, length, IsTrue};
 ghost use Rattle.stage.specs.Gather.{gathered};
 ghost use Rattle.chain.specs.Selecting.{selecting, ring};
 ghost use Rattle.chain.specs.Selects.{selecting_lawful};
@@ -40,7 +40,7 @@ impl Stage for Selection {
         let m = self.length(n, s);
         admit_forward(n, s, m, work, side)?;
         let _guard = Cleared { bytes: side };
-        repeat(&mut work[0..m], n);
+        repeat(&mut work[..m], n);
         clear_from(work, m);
         Ok(m)
     }
@@ -55,7 +55,7 @@ impl Stage for Selection {
         let m = self.length(n, s);
         admit_back(s, m, self.covers(n, s), work, side)?;
         let _guard = Cleared { bytes: side };
-        if !repeats(&work[0..m], n) {
+        if !repeats(&work[..m], n) {
             clear_from(work, m);
             return Err(StageFault::NoBlock);
         }
@@ -76,13 +76,9 @@ fn repeat(bits: &mut [u8], n: usize)
 
 // Whether the first n bits go on, again and again, to the end.
 fn repeats(bits: &[u8], n: usize) -> bool
-    requires { 0 < n }
-    ensures { Decides result (bits.now ≡ gathered (ring n (length bits.now)) bits.now) }
+    requires some { 0 < n }
+    requires within { n ≤ length bits.now }
+    ensures { IsTrue result ↔ (bits.now ≡ gathered (ring n (length bits.now)) bits.now) }
 {
-    for k in n..bits.len() {
-        if bits[k] != bits[k - n] {
-            return false;
-        }
-    }
-    true
+    bits[n..] == bits[..bits.len() - n]
 }

@@ -15,7 +15,7 @@ use Rattle.stage.proofs.Binary.{binary-zeros, binary-append, binary-take}
 use Rattle.stage.proofs.Padding.{front_cleared}
 use Rattle.stage.proofs.Framed.{word_plain, ready, ready_back, ReadyBack, framed_forward, framed_found, framed_lacking}
 use Rattle.stage.specs.Ranges.{within}
-use Rattle.check_bits.specs.Checking.{check_bits_of, to_bits, checking}
+use Rattle.check_bits.specs.Checking.{check_bits_of, checking}
 use Rattle.stage.proofs.Lengths.{cond_some, within_parts}
 use Rattle.check_bits.specs.Division.{length_check_bits, binary_check_bits, check_bits_xor}
 
@@ -52,45 +52,33 @@ pub checked_word : (n e seed : ℕ) → 0 < checking.size n e → (b : List ℕ)
 checked_word n e seed some b h = word_plain checking_lawful n e seed some (ap zeros (sym (size_is n e some))) b h
 
 -- a part written behind the first n, as the code has it
-put_behind : (work part : List ℕ) (n k i : ℕ) → i ≡ k - n → n ≤ k → put_mid n i work part ≡ (take n work ++ part) ++ drop k work
-put_behind work part n k i same low =
-    let at : n + i ≡ k = omega arith in
-    ap (λ (r : List ℕ). take n work ++ (part ++ r)) (drop-drop i n work ∙ ap (λ (j : ℕ). drop j work) at)
+put_behind : (work part : List ℕ) (n k : ℕ) → n ≤ k → put_mid n (k - n) work part ≡ (take n work ++ part) ++ drop k work
+put_behind work part n k low =
+    ap (λ (r : List ℕ). take n work ++ (part ++ r)) (drop-drop (k - n) n work ∙ ap (λ (j : ℕ). drop j work) (omega arith))
     ∙ sym (append_assoc (take n work) part (drop k work))
 
--- a list and what stands behind it, at the front of a buffer
-front_of : (work b r : List ℕ) (n k i : ℕ) → i ≡ k - n → n ≤ k → length b ≡ n → b ++ r ≡ take k work → (b ≡ take n work) × (r ≡ take i (drop n work))
-front_of work b r n k i same low l e =
-    let at : n + i ≡ k = omega arith in
-    let e' : b ++ r ≡ take (n + i) work = e ∙ ap (λ (j : ℕ). take j work) (sym at) in (
-      sym (take_at b r n l) ∙ ap (take n) e ∙ take-take n k work low,
-      sym (drop_at b r n l) ∙ ap (drop n) e' ∙ drop-take n i work,
-    )
+-- the front of a buffer in two parts
+two_parts : (work : List ℕ) (n k : ℕ) → n ≤ k → take k work ≡ take n work ++ take (k - n) (drop n work)
+two_parts work n k low =
+    let at : n + (k - n) ≡ k = omega arith in
+    sym (take-append-drop n (take k work))
+    ∙ ap₂ (λ (x y : List ℕ). x ++ y) (take-take n k work low)
+    (ap (λ (j : ℕ). drop n (take j work)) (sym at) ∙ drop-take n (k - n) work)
 
-two_parts : (work : List ℕ) (n k i : ℕ) → i ≡ k - n → n ≤ k → take k work ≡ take n work ++ take i (drop n work)
-two_parts work n k i same low =
-    let at : n + i ≡ k = omega arith in
-    ap (λ (j : ℕ). take j work) (sym at) ∙ sym (take-append-drop n (take (n + i) work))
-    ∙ ap₂ (λ (x y : List ℕ). x ++ y) (take-take n (n + i) work (omega arith)) (drop-take n i work)
-
-module _ (n : ℕ) (s : Setting) (work side : List ℕ) (k : ℕ) (k_is : k ≡ word_length checking n s) (number j i : ℕ) (j_is : j ≡ n) (i_is : i ≡ k - n)
-    (checked : to_bits 24 number ≡ check_bits_of (take j work)) where
-  number_is : to_bits 24 number ≡ check_bits_of (take n work)
-  number_is = checked ∙ ap (λ (m : ℕ). check_bits_of (take m work)) j_is
-
-  pub check_forward : None ≡ first_fault (forward_tests n s k work side) → (part w d : List ℕ)
-      → part ≡ to_bits 24 number
-      → w ≡ padded (take k (put_mid n i work part)) (length (put_mid n i work part)) → d ≡ zeros (length side)
+module _ (n : ℕ) (s : Setting) (work side : List ℕ) (k : ℕ) (k_is : k ≡ word_length checking n s) (check : List ℕ)
+    (checked : check ≡ check_bits_of (take n work)) where
+  pub check_forward : None ≡ first_fault (forward_tests n s k work side) → (part w d : List ℕ) → part ≡ check
+      → w ≡ padded (take k (put_mid n (k - n) work part)) (length (put_mid n (k - n) work part)) → d ≡ zeros (length side)
       → Forward checking n s work side w d (Ok k)
   check_forward passes part w d part_is w_is d_is =
       let r = ready checking_lawful n s work side k k_is passes in
       let k_n : k ≡ n + 24 = r.word_is ∙ size_is n s.output r.opened.some in
-      let is : part ≡ check_bits_of (take n work) = part_is ∙ number_is in
-      let put : put_mid n i work part ≡ (take n work ++ part) ++ drop k work = put_behind work part n k i i_is (omega arith) in
+      let is : part ≡ check_bits_of (take n work) = part_is ∙ checked in
       let long : length (take n work ++ part) ≡ k =
       length-append (take n work) part ∙ omega (arith, r.bits.0, ap length is, length_check_bits (take n work)) in
       framed_forward checking_lawful n s work side k k_is passes w d
-      (front_cleared work (take n work ++ part) w k k refl long (omega arith) (w_is ∙ ap (λ (x : List ℕ). padded (take k x) (length x)) put)
+      (front_cleared work (take n work ++ part) w k k refl long (omega arith)
+      (w_is ∙ ap (λ (x : List ℕ). padded (take k x) (length x)) (put_behind work part n k (omega arith)))
       ∙ ap (λ (x : List ℕ). padded x (length work))
       (ap (λ (x : List ℕ). take n work ++ x) is ∙ sym (checked_word n s.output s.seed r.opened.some (take n work) r.bits)))
       d_is
@@ -100,11 +88,8 @@ module _ (n : ℕ) (s : Setting) (work side : List ℕ) (k : ℕ) (k_is : k ≡ 
     here : ReadyBack checking_lawful n s work side k k_is c c_is
     here = ready_back checking_lawful n s work side k k_is c c_is passes
 
-    k_here : k ≡ n + 24
-    k_here = here.word_is ∙ size_is n s.output here.opened.some
-
     n_k : n ≤ k
-    n_k = let z = k_here in omega arith
+    n_k = let z : k ≡ n + 24 = here.word_is ∙ size_is n s.output here.opened.some in omega arith
 
     front_bits : Bits n (take n work)
     front_bits = (
@@ -115,24 +100,27 @@ module _ (n : ℕ) (s : Setting) (work side : List ℕ) (k : ℕ) (k_is : k ≡ 
     word_of : (b : List ℕ) → Bits n b → word checking n s.output s.seed b ≡ b ++ check_bits_of b
     word_of b h = checked_word n s.output s.seed here.opened.some b h
 
-    pub check_finds : take i (drop n work) ≡ to_bits 24 number → w ≡ padded (take n work) (length work) → Back checking n s work side w d (Ok n)
+    pub check_finds : take (k - n) (drop n work) ≡ check → w ≡ padded (take n work) (length work) → Back checking n s work side w d (Ok n)
     check_finds agree w_is =
         framed_found checking_lawful n s work side k k_is c c_is passes w d d_is (take n work) front_bits
-        (word_of (take n work) front_bits ∙ ap (λ (x : List ℕ). take n work ++ x) (sym (agree ∙ number_is)) ∙ sym (two_parts work n k i i_is n_k))
+        (word_of (take n work) front_bits ∙ ap (λ (x : List ℕ). take n work ++ x) (sym (agree ∙ checked)) ∙ sym (two_parts work n k n_k))
         w_is
 
-    pub check_lacks : (take i (drop n work) ≢ to_bits 24 number) → w ≡ padded (take k work) (length work) → Back checking n s work side w d (Err NoBlock)
+    pub check_lacks : (take (k - n) (drop n work) ≢ check) → w ≡ padded (take k work) (length work) → Back checking n s work side w d (Err NoBlock)
     check_lacks differ w_is =
         framed_lacking checking_lawful n s work side k k_is c c_is passes w d d_is
         (λ b h is.
-        let f = front_of work b (check_bits_of b) n k i i_is n_k h.0 (sym (word_of b h) ∙ is) in
-        differ (sym f.1 ∙ ap check_bits_of f.0 ∙ sym number_is))
+        let e : b ++ check_bits_of b ≡ take n work ++ take (k - n) (drop n work) = sym (word_of b h) ∙ is ∙ two_parts work n k n_k in
+        let rest = take (k - n) (drop n work) in
+        let front : b ≡ take n work = sym (take_at b (check_bits_of b) n h.0) ∙ ap (take n) e ∙ take_at (take n work) rest n front_bits.0 in
+        let behind : check_bits_of b ≡ rest = sym (drop_at b (check_bits_of b) n h.0) ∙ ap (drop n) e ∙ drop_at (take n work) rest n front_bits.0 in
+        differ (sym behind ∙ ap check_bits_of front ∙ sym checked))
         w_is
 
 -- the block at the front of a word of bits
 pub front_binary : (n : ℕ) (s : Setting) (work side : List ℕ) (k : ℕ) → k ≡ word_length checking n s → (c : Bool) → c ≡ covering checking n s
-    → None ≡ first_fault (back_tests s k c work side) → (j : ℕ) → j ≡ n → binary (take j work) ≡ true
-front_binary n s work side k k_is c c_is passes j j_is =
+    → None ≡ first_fault (back_tests s k c work side) → binary (take n work) ≡ true
+front_binary n s work side k k_is c c_is passes =
     let r = ready_back checking_lawful n s work side k k_is c c_is passes in
     let k_n : k ≡ n + 24 = r.word_is ∙ size_is n s.output r.opened.some in
-    ap (λ (m : ℕ). binary (take m work)) j_is ∙ ap binary (sym (take-take n k work (omega arith))) ∙ binary-take n (take k work) r.bits.1
+    ap binary (sym (take-take n k work (omega arith))) ∙ binary-take n (take k work) r.bits.1

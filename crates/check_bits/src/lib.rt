@@ -54,8 +54,8 @@ impl Stage for CheckBits {
         let m = self.length(n, s);
         admit_forward(n, s, m, work, side)?;
         let _guard = Cleared { bytes: side };
-        let check = remainder(&work[0..n]);
-        write_bits(check, &mut work[n..m]);
+        let check = check_of(&work[..n]);
+        work[n..m].copy_from_slice(&check);
         clear_from(work, m);
         Ok(m)
     }
@@ -70,8 +70,8 @@ impl Stage for CheckBits {
         let m = self.length(n, s);
         admit_back(s, m, self.covers(n, s), work, side)?;
         let _guard = Cleared { bytes: side };
-        let check = remainder(&work[0..n]);
-        if !has_bits(check, &work[n..m]) {
+        let check = check_of(&work[..n]);
+        if work[n..m] != check[..] {
             clear_from(work, m);
             return Err(StageFault::NoBlock);
         }
@@ -80,27 +80,21 @@ impl Stage for CheckBits {
     }
 }
 
-// The check bits of a block as a number, by a shift register that starts at 0.
-fn remainder(block: &[u8]) -> u32
+// The check bits of a block, by a shift register that starts at 0.
+fn check_of(block: &[u8]) -> [u8; CHECK]
     requires { binary block.now ≡ true }
-    ensures { to_bits 24 result ≡ check_bits_of block.now }
+    ensures { result ≡ check_bits_of block.now }
 {
-    let mut register = 0;
-    for bit in block {
-        register = shift_in(register, *bit);
-    }
-    register
+    let register = block.iter().fold(0, |state, bit| shift_in(state, *bit));
+    bits_of(register)
 }
 
-// One bit into the register of 24 bits.
+// One bit into the register, whose lowest 24 bits count.
 fn shift_in(register: u32, bit: u8) -> u32
-    requires fits { register < 2 ^ 24 }
-    requires is_bit { bit < 2 }
-    ensures fits { result < 2 ^ 24 }
-    ensures steps { to_bits 24 result ≡ taken_in (to_bits 24 register) bit }
+    ensures { bit < 2 → to_bits 24 result ≡ taken_in (to_bits 24 register) bit }
 {
-    let top = (register >> 23) ^ bit as u32;
-    let shifted = (register << 1) & 0xff_ffff;
+    let top = ((register >> 23) ^ bit as u32) & 1;
+    let shifted = register << 1;
     if top == 1 {
         shifted ^ 0x86_4cfb
     } else {
@@ -108,25 +102,13 @@ fn shift_in(register: u32, bit: u8) -> u32
     }
 }
 
-// Writes the 24 bits of a number, the highest first.
-fn write_bits(number: u32, bits: &mut [u8])
-    requires { length bits.old ≡ 24 }
-    ensures { bits.new ≡ to_bits 24 number }
+// The lowest 24 bits of a number, the highest first.
+fn bits_of(number: u32) -> [u8; CHECK]
+    ensures { result ≡ to_bits 24 number }
 {
-    for i in 0..CHECK {
-        bits[i] = ((number >> (23 - i)) & 1) as u8;
+    let mut bits = [0; CHECK];
+    for (i, bit) in bits.iter_mut().enumerate() {
+        *bit = ((number >> (23 - i)) & 1) as u8;
     }
-}
-
-// Whether these are the 24 bits of a number, the highest first.
-fn has_bits(number: u32, bits: &[u8]) -> bool
-    requires { length bits.now ≡ 24 }
-    ensures { Decides result (bits.now ≡ to_bits 24 number) }
-{
-    for i in 0..CHECK {
-        if bits[i] as u32 != (number >> (23 - i)) & 1 {
-            return false;
-        }
-    }
-    true
+    bits
 }

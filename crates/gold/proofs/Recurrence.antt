@@ -1,9 +1,8 @@
 -- The two sequences are those of the standard.
-use Rattle.std.proofs.Common.{◌≡◌, ℕ, zero, suc, ◌+◌, ◌-◌, ◌%◌, ◌^◌, ◌<◌, ◌≤◌, sym, refl, ap, ◌∙◌, ⊎_elim, arith}
-use native.Mathlib.Nat.{zero-div}
+use Rattle.std.proofs.Common.{◌≡◌, ℕ, zero, suc, ◌+◌, ◌-◌, ◌%◌, ◌<◌, ◌≤◌, sym, refl, ap, ◌∙◌, ⊎_elim, add-one, below_more, arith}
 use Rattle.std.proofs.lemmas.Bool.{cases_lt}
+use Rattle.std.proofs.lemmas.Nat.Bits.{bit_at_above}
 use Rattle.gold.specs.Sequence.{FirstSequence, SecondSequence, MeetsStandard, bit, fresh₁, fresh₂, x₁, x₂, gold}
-use Rattle.gold.proofs.Masks.{bit_suc}
 use Rattle.gold.proofs.Window.{window_none, bit-window, bit_past, bit_next, below₁, below₂}
 
 pub first_stands : FirstSequence x₁
@@ -11,15 +10,11 @@ unfolding x₁
 first_stands =
     record {
       one = ap (λ v. bit v 0) (window_none fresh₁ 1);
-      zeros = λ i p h. bit-window fresh₁ below₁ i 1 h ∙ high i p;
+      zeros = λ i p h. bit-window fresh₁ below₁ i 1 h ∙ bit_at_above 1 1 i (omega arith) (omega arith);
       next = λ i.
           let a = bit_past fresh₁ below₁ 1 i 3 (omega arith) in
           bit_next fresh₁ below₁ 1 i ∙ omega arith;
     }
-  where
-    high : (i : ℕ) → 0 < i → bit 1 i ≡ 0
-    high zero p = absurd (omega arith)
-    high (suc j) p = bit_suc 1 j ∙ ap (λ v. v % 2) (zero-div (2 ^ j))
 
 pub second_stands : (seed : ℕ) → SecondSequence seed (x₂ seed)
 unfolding x₂
@@ -51,11 +46,8 @@ module _ (r : ℕ → ℕ → ℕ → ℕ → ℕ) (x y : ℕ → ℕ) (start : 
           ap x e ∙ (nx m ∙ ((cc) ∙ (sym (ny m) ∙ ap y (sym e))))
 
   agree_below : (n i : ℕ) → i < n → x i ≡ y i
-  agree_below zero i h = absurd (omega arith)
-  agree_below (suc n) i h =
-      ⊎_elim (agree_below n i)
-      (λ g. let e : i ≡ n = omega arith in ap x e ∙ (agree_at n (agree_below n) ∙ ap y (sym e)))
-      (cases_lt i n)
+  agree_below zero = λ i h. absurd (omega arith)
+  agree_below (suc n) = simp add-one at (below_more (λ i. x i ≡ y i) n (agree_below n) (agree_at n (agree_below n)))
 
   pub agree : (i : ℕ) → x i ≡ y i
   agree i = agree_below (i + 1) i (omega arith)

@@ -1,7 +1,8 @@
 -- A window that moves over its sequence.
-use Rattle.std.proofs.Common.{◌≡◌, ℕ, zero, suc, ◌+◌, ◌/◌, ◌%◌, ◌^◌, ◌<◌, sym, refl, ap, ◌∙◌, suc-add, zero-add, arith}
+use Rattle.std.proofs.Common.{◌≡◌, ℕ, zero, suc, ◌+◌, ◌*◌, ◌/◌, ◌%◌, ◌^◌, ◌<◌, sym, refl, ap, ◌∙◌, add_comm, suc-add, zero-add, arith}
+use Rattle.std.proofs.lemmas.Nat.{shr_split}
+use Rattle.std.proofs.lemmas.Nat.Bits.{bit_at-suc, bit_at_cat_low}
 use Rattle.gold.specs.Sequence.{bit, fresh₁, fresh₂, shifted, window}
-use Rattle.gold.proofs.Masks.{bit_suc, bit_mod}
 
 pub window_none : (f : ℕ → ℕ) (w : ℕ) → window f w 0 ≡ w
 unfolding window
@@ -19,8 +20,9 @@ window_add f w (suc i) j = ap (window f w) (suc-add i j) ∙ window_add f (shift
 module _ (f : ℕ → ℕ) (below : (w : ℕ) → f w < 2) where
   bit_shifted : (w j : ℕ) → j < 30 → bit (shifted f w) j ≡ bit w (suc j)
   bit_shifted w j h =
-      let e : shifted f w % 2 ^ 30 ≡ w / 2 % 2 ^ 30 = omega arith in
-      sym (bit_mod (shifted f w) 30 j h) ∙ (ap (λ v. bit v j) e ∙ (bit_mod (w / 2) 30 j h ∙ sym (bit_suc w j)))
+      let low = w / 2 % 2 ^ 30 in
+      ap (λ v. bit v j) (add_comm low (f w * 2 ^ 30)) ∙ bit_at_cat_low (f w) 30 low j h
+      ∙ sym (bit_at_cat_low (w / 2 / 2 ^ 30) 30 low j h) ∙ ap (λ v. bit v j) (shr_split (w / 2) 30) ∙ sym (bit_at-suc w j)
 
   -- the sequence begins with the bits of its window
   pub bit-window : (j w : ℕ) → j < 31 → bit (window f w j) 0 ≡ bit w j

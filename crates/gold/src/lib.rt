@@ -2,7 +2,7 @@
 
 ghost use Rattle.std.specs.Prelude.{◌≡◌, ℕ, ◌+◌, ◌*◌, ◌/◌, ◌%◌, ◌^◌};
 ghost use Rattle.gold.specs.Registers.{bits_of};
-ghost use Rattle.gold.specs.Sequence.{fresh₁, fresh₂, shifted, gold, MeetsStandard};
+ghost use Rattle.gold.specs.Sequence.{gold, MeetsStandard};
 
 // A generator of the pseudo-random sequence: the shift registers of its two sequences, 31 bits each, the next bit lowest.
 #[derive(Clone, Copy)]
@@ -31,9 +31,9 @@ impl Gold {
         ensures rest { (k : ℕ) → bits_of self.new k ≡ bits_of self.old (k + 1) }
     {
         let Gold { x1, x2 } = *self;
-        self.x1 = step1(x1);
-        self.x2 = step2(x2);
-        sum(x1, x2) as u8
+        self.x1 = shift_in(x1, (x1 >> 3) ^ x1);
+        self.x2 = shift_in(x2, (x2 >> 3) ^ (x2 >> 2) ^ (x2 >> 1) ^ x2);
+        ((x1 ^ x2) & 1) as u8
     }
 
     // Passes over n bits.
@@ -46,30 +46,9 @@ impl Gold {
     }
 }
 
-// The first register one place on.
-fn step1(x: u32) -> u32
-    ensures { result ≡ shifted fresh₁ x }
-{
-    shift_in(x, sum(x >> 3, x))
-}
-
-// The second register one place on.
-fn step2(x: u32) -> u32
-    ensures { result ≡ shifted fresh₂ x }
-{
-    shift_in(x, sum(sum(x >> 3, x >> 2), sum(x >> 1, x)))
-}
-
 // A register one place on, the lowest bit of `fresh` coming in at the top.
 fn shift_in(x: u32, fresh: u32) -> u32
     ensures { result ≡ x / 2 % 2 ^ 30 + fresh % 2 * 2 ^ 30 }
 {
     ((x >> 1) & 0x3fff_ffff) | ((fresh & 1) << 30)
-}
-
-// The sum modulo 2 of two lowest bits.
-fn sum(a: u32, b: u32) -> u32
-    ensures { result ≡ (a + b) % 2 }
-{
-    (a ^ b) & 1
 }

@@ -1,6 +1,6 @@
 -- A list of bits, place by place. Assumes nothing.
-use Rattle.std.proofs.Common.{◌≡◌, ℕ, zero, suc, ◌<◌, Bool, true, false, not, ltb, List, [], ◌∷◌, ◌++◌, length, get_or, take, drop, Some, None, sym, refl, ap, arith}
-use Rattle.std.specs.List.{AllByRecursion}
+use Rattle.std.proofs.Common.{◌≡◌, ℕ, zero, suc, ◌<◌, Bool, true, false, not, ◌&&◌, ltb, List, [], ◌∷◌, ◌++◌, length, get_or, take, drop, Some, None, sym, refl, ap, arith}
+use Rattle.std.specs.List.{AllByRecursion, list_all}
 use Rattle.std.proofs.lemmas.Bool.{and_parts, and_from, ltb-true, lt-ltb}
 use Rattle.std.proofs.lemmas.List.{get_or-take, length-take}
 use Rattle.std.proofs.ByRecursion.{All-append, All-take, All-drop, All-get_or}
@@ -43,26 +43,7 @@ binary-take n xs p = binary_small (take n xs) (All-take (λ x. x < 2) n xs (smal
 pub binary-drop : (n : ℕ) (xs : List ℕ) → binary xs ≡ true → binary (drop n xs) ≡ true
 binary-drop n xs p = binary_small (drop n xs) (All-drop (λ x. x < 2) n xs (small_from xs p))
 
-not_binary : (xs : List ℕ) (k : ℕ) → k < length xs → 1 < get_or xs k 0 → binary xs ≡ false
-not_binary xs k h l = go (binary xs) refl
-  where
-    go : (t : Bool) → binary xs ≡ t → binary xs ≡ false
-    go true e = let z : ⊥ = omega (arith, binary-at xs k e h) in absurd z
-    go false e = e
-
--- the loop of test 8
-pub bits_pass : (xs : List ℕ) (n : ℕ) → ((k : ℕ) → k < n → k < length xs → get_or xs k 0 < 2)
-    → None ≡ first_fault ((not (binary (take n xs)), NotBits) ∷ [])
-bits_pass xs n f =
-    sym (passed (not (binary (take n xs))) NotBits []
-    (ap not (binary_from (take n xs) (λ k l.
-    let len = length-take n xs in
-    let m : k < n = omega arith in
-    let i : k < length xs = omega arith in
-    rw get_or-take (f k m i)))))
-
-pub bits_stop : (xs : List ℕ) (n i : ℕ) → i < n → i < length xs → 1 < get_or xs i 0
-    → Some NotBits ≡ first_fault ((not (binary (take n xs)), NotBits) ∷ [])
-bits_stop xs n i l h big =
-    sym (stopped (not (binary (take n xs))) NotBits []
-    (ap not (not_binary (take n xs) i (let len = length-take n xs in omega arith) (rw get_or-take big))))
+-- the test of each element, in the words of the standard library
+pub binary_all : (xs : List ℕ) → binary xs ≡ list_all (λ x. ltb x 2) xs
+binary_all [] = refl
+binary_all (x ∷ xs) = ap (λ t. ltb x 2 && t) (binary_all xs)

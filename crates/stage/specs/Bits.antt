@@ -1,10 +1,10 @@
 -- Lists of bits. A bit is the number 0 or 1. Assumes nothing.
-use Rattle.std.specs.Prelude.{◌≡◌, ℕ, ◌-◌, Bool, true, ◌&&◌, List, [], ◌∷◌, ◌++◌, length, replicate, bit_xor, nat_lt}
+use Rattle.std.specs.Prelude.{◌≡◌, ℕ, ◌-◌, Bool, true, List, [], ◌∷◌, ◌++◌, length, replicate, bit_xor, nat_lt}
+use Rattle.std.specs.List.{list_all}
 
 -- whether each element is 0 or 1
 abbrev pub binary : List ℕ → Bool
-binary [] = true
-binary (x ∷ xs) = nat_lt x 2 && binary xs
+binary xs = list_all (λ x. nat_lt x 2) xs
 
 -- b is a list of n bits
 abbrev pub Bits : ℕ → List ℕ → Type 0

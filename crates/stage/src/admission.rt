@@ -1,17 +1,24 @@
 ghost use Rattle.std.specs.Prelude.{◌≡◌, not, [], ◌∷◌, take};
 ghost use Rattle.std.specs.Result.{result_err};
 ghost use Rattle.stage.specs.Bits.{binary};
-ghost use Rattle.stage.specs.Refusals.{first_fault, opening_tests, forward_tests, back_tests};
+ghost use Rattle.stage.specs.Refusals.{short, first_fault, opening_tests, forward_tests, back_tests};
 ghost use Rattle.stage.specs.declared.fault.StageFault.TheVariants.{NotBits};
 
 use crate::fault::StageFault;
 use crate::setting::{MOST_BITS, Setting};
 
+// Test 4: whether the work or side buffer is short.
+pub fn is_short(work: &[u8], side: &[u8]) -> bool
+    ensures { result ≡ short work.now side.now }
+{
+    work.len() < MOST_BITS || side.len() < MOST_BITS
+}
+
 // Tests 4 to 6, where m is the word length.
 pub fn admit(s: Setting, m: usize, work: &[u8], side: &[u8]) -> Result<(), StageFault>
     ensures { result_err result ≡ first_fault (opening_tests s m work.now side.now) }
 {
-    if work.len() < MOST_BITS || side.len() < MOST_BITS {
+    if is_short(work, side) {
         return Err(StageFault::ShortBuffer);
     }
     if !s.in_range() {
@@ -23,14 +30,19 @@ pub fn admit(s: Setting, m: usize, work: &[u8], side: &[u8]) -> Result<(), Stage
     Ok(())
 }
 
-// Test 8: each of the first n bytes, as far as there are so many, is 0 or 1.
+// Whether each of the first n bytes, as far as there are so many, is 0 or 1.
+fn are_bits(buffer: &[u8], n: usize) -> bool
+    ensures { result ≡ binary (take n buffer.now) }
+{
+    buffer.iter().take(n).all(|bit| *bit < 2)
+}
+
+// Test 8, on the first n bytes.
 pub fn check_bits(buffer: &[u8], n: usize) -> Result<(), StageFault>
     ensures { result_err result ≡ first_fault ((not (binary (take n buffer.now)), NotBits) ∷ []) }
 {
-    for i in 0..n.min(buffer.len()) {
-        if buffer[i] > 1 {
-            return Err(StageFault::NotBits);
-        }
+    if !are_bits(buffer, n) {
+        return Err(StageFault::NotBits);
     }
     Ok(())
 }

@@ -5,7 +5,6 @@ ghost use Rattle.stage.specs.Bits.{padded};
 pub fn clear_from(buffer: &mut [u8], n: usize)
     ensures { buffer.new ≡ padded (take n buffer.old) (length buffer.old) }
 {
-    for i in n..buffer.len() {
-        buffer[i] = 0;
-    }
+    let from = n.min(buffer.len());
+    buffer[from..].fill(0);
 }

@@ -10,9 +10,7 @@ impl Drop for Cleared<'_> {
     fn drop(self)
         ensures { self.exit.0.now ≡ zeros (length self.entry.bytes.now) }
     {
-        for x in self.bytes.iter_mut() {
-            *x = 0;
-        }
+        self.bytes.fill(0);
         let Cleared { bytes: _ } = self;
     }
 }
