@@ -1,4 +1,5 @@
 pub mod Faults
+pub mod Words
 pub mod Ends
 pub mod Refusals
 pub mod Cells

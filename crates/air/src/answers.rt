@@ -1,3 +1,8 @@
+ghost use Rattle.std.specs.Prelude.{Some};
+ghost use Rattle.air.specs.Words.{airing_words, outcome_words};
+
+use std::fmt;
+
 // What a cell says of the subframe that it has written.
 #[derive(Clone, Copy, PartialEq, Eq, Debug)]
 pub enum Airing {
@@ -20,4 +25,31 @@ pub enum Outcome {
     Spoiled,
     // Another copy, unread.
     Repeat,
+}
+
+impl fmt::Display for Airing {
+    ghost output = { λ airing. Some (airing_words airing) };
+
+    fn fmt<W: fmt::Write>(&self, f: &mut fmt::Formatter<W>) -> fmt::Result {
+        match self {
+            Airing::Closed => f.write_str("closed"),
+            Airing::Idle => f.write_str("idle"),
+            Airing::Data { part, owed } => write!(f, "data part {part}, owed {owed}"),
+        }
+    }
+}
+
+impl fmt::Display for Outcome {
+    ghost output = { λ outcome. Some (outcome_words outcome) };
+
+    fn fmt<W: fmt::Write>(&self, f: &mut fmt::Formatter<W>) -> fmt::Result {
+        match self {
+            Outcome::Closed => f.write_str("closed"),
+            Outcome::Idle => f.write_str("idle"),
+            Outcome::Part(part) => write!(f, "part {part}"),
+            Outcome::Block => f.write_str("block"),
+            Outcome::Spoiled => f.write_str("spoiled"),
+            Outcome::Repeat => f.write_str("repeat"),
+        }
+    }
 }

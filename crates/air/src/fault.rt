@@ -1,18 +1,18 @@
-ghost use Rattle.std.specs.Prelude.{◌≡◌};
+ghost use Rattle.std.specs.Prelude.{◌≡◌, Some};
 ghost use Rattle.air.specs.Faults.{park_number, end_number};
+ghost use Rattle.air.specs.Words.{park_words, end_words};
 ghost use Rattle.air.specs.declared.fault.EndFault.TheVariants.{Grant, Chain};
 
 use calendar::fault::GrantFault;
 use stage::fault::StageFault;
+use std::error::Error;
+use std::fmt;
 
 // Why a parked end refuses to be set.
 #[derive(Clone, Copy, PartialEq, Eq, Debug)]
 pub enum ParkFault {
-    // The identity is above 503.
     Identity = 1,
-    // The frame is above 1,023.
     Frame = 2,
-    // The subframe is above 9.
     Subframe = 3,
 }
 
@@ -24,26 +24,31 @@ impl ParkFault {
     }
 }
 
+impl fmt::Display for ParkFault {
+    ghost output = { λ fault. Some (park_words fault) };
+
+    fn fmt<W: fmt::Write>(&self, f: &mut fmt::Formatter<W>) -> fmt::Result {
+        f.write_str(match self {
+            ParkFault::Identity => "identity above 503",
+            ParkFault::Frame => "frame above 1,023",
+            ParkFault::Subframe => "subframe above 9",
+        })
+    }
+}
+
+impl Error for ParkFault {}
+
 // Why a cell or a terminal refuses a call.
-#[derive(Clone, Copy)]
+#[derive(Clone, Copy, PartialEq, Eq, Debug)]
 pub enum EndFault {
-    // The work or side buffer is short.
     ShortBuffer,
-    // The grant names what it may not.
     Grant(GrantFault),
-    // A grant is pending.
     Pending,
-    // The chain has a word, but not one as long as the grant asks.
     WordLength,
-    // The chain's own refusal.
     Chain(StageFault),
-    // The grid has not 168 points.
     GridSize,
-    // The block buffer is shorter than the block of the pending grant.
     ShortBlock,
-    // A data point that is due to be read is no pair.
     NoPair,
-    // There is no grant to withdraw or to forget.
     NoGrant,
 }
 
@@ -64,6 +69,26 @@ impl EndFault {
         }
     }
 }
+
+impl fmt::Display for EndFault {
+    ghost output = { λ fault. Some (end_words fault) };
+
+    fn fmt<W: fmt::Write>(&self, f: &mut fmt::Formatter<W>) -> fmt::Result {
+        f.write_str(match self {
+            EndFault::Grant(fault) => return write!(f, "grant refused: {fault}"),
+            EndFault::Chain(fault) => return write!(f, "chain refused: {fault}"),
+            EndFault::ShortBuffer => "work or side buffer short",
+            EndFault::Pending => "a grant is pending",
+            EndFault::WordLength => "the chain has a word, but not one as long as the grant asks",
+            EndFault::GridSize => "the grid has not 168 points",
+            EndFault::ShortBlock => "block buffer shorter than the block of the pending grant",
+            EndFault::NoPair => "a data point that is due to be read is no pair",
+            EndFault::NoGrant => "there is no grant",
+        })
+    }
+}
+
+impl Error for EndFault {}
 
 impl From<GrantFault> for EndFault {
     ghost from_gives = { λ f r. r ≡ Grant f };

@@ -6,15 +6,14 @@ use point::Point;
 
 const SUBCARRIERS: usize = 12;
 
-const SYMBOLS: usize = 14;
+const ELEMENTS: usize = 14 * SUBCARRIERS;
 
 // Prints `.` for what is no pair, 0 to 3 for a data point, and a to d for a reference point.
 pub fn show_grid<P: Point>(rt: &HostRuntime, grid: &[P], identity: Identity) -> anyhow::Result<()> {
     let shift = Shift::of(identity);
     for k in (0..SUBCARRIERS).rev() {
         print!(rt; "{k:2} ")?;
-        for l in 0..SYMBOLS {
-            let place = SUBCARRIERS * l + k;
+        for place in (k..ELEMENTS).step_by(SUBCARRIERS) {
             let point = grid.get(place).copied().unwrap_or(P::blank());
             print!(rt; "{}", letter(point, shift.purpose(place)))?;
         }

@@ -1,5 +1,5 @@
 -- The figures hold, each by its definition or by the theorem at every length. Assumes nothing.
-use Rattle.std.proofs.Common.{◌≡◌, ℕ, ◌+◌, ◌-◌, [], ◌∷◌, ◌++◌, refl, ap, ◌∙◌, arith}
+use Rattle.std.proofs.Common.{◌≡◌, ℕ, ◌+◌, ◌-◌, [], ◌∷◌, ◌++◌, refl, arith}
 use Rattle.stage.specs.Bits.{zeros}
 use Rattle.tail_biting.specs.Coding.{stream, taps_of}
 use Rattle.check_bits.proofs.CheckFigures.{zero_check, last_check}
@@ -9,10 +9,9 @@ use Rattle.figures.specs.Figures.{figures, FiguresHold}
 
 lone_one_at : (n : ℕ) → stream (taps_of 0) (1 ∷ zeros (n + 6)) ≡ (1 ∷ 0 ∷ 1 ∷ 1 ∷ 0 ∷ 1 ∷ 1 ∷ []) ++ zeros n
 lone_one_at n =
-    let a : n + 6 ≡ n + 7 - 1 = omega arith in
+    let a : n + 7 - 1 ≡ n + 6 = omega arith in
     let b : n + 7 - 7 ≡ n = omega arith in
-    ap (λ k. stream (taps_of 0) (1 ∷ zeros k)) a ∙ lone_one (n + 7) (omega arith)
-    ∙ ap (λ k. (1 ∷ 0 ∷ 1 ∷ 1 ∷ 0 ∷ 1 ∷ 1 ∷ []) ++ zeros k) b
+    rw (a, b) at (lone_one (n + 7) (omega arith))
 
 pub figures_hold : FiguresHold
 unfolding FiguresHold figures

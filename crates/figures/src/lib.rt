@@ -4,6 +4,7 @@
 ghost use Rattle.figures.specs.Figures.{FiguresHold};
 
 // Every figure of the list holds.
+#[tactic(auto, using(crate::proofs::Worked::figures_hold))]
 pub fn figures_hold()
     ensures { FiguresHold }
 {}

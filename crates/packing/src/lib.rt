@@ -10,8 +10,8 @@ use std::fmt;
 pub fn unpack(bytes: &[u8], bits: &mut [u8])
     ensures { bits.new ≡ unpacked bytes.now (length bits.old) }
 {
-    for k in 0..bits.len() {
-        bits[k] = bit(bytes, k);
+    for (k, b) in bits.iter_mut().enumerate() {
+        *b = bit(bytes, k);
     }
 }
 
@@ -19,10 +19,9 @@ pub fn unpack(bytes: &[u8], bits: &mut [u8])
 fn bit(bytes: &[u8], k: usize) -> u8
     ensures { result ≡ bit_at bytes.now k }
 {
-    if k / 8 >= bytes.len() {
-        return 0;
-    }
-    (bytes[k / 8] >> (7 - k % 8)) & 1
+    bytes
+        .get(k / 8)
+        .map_or(0, |byte| (*byte >> (7 - k % 8)) & 1)
 }
 
 // Bits as hexadecimal digits, four to a digit.
@@ -34,10 +33,9 @@ pub struct Hex<'a> {
 impl fmt::Display for Hex<'_> {
     fn fmt<W: fmt::Write>(&self, f: &mut fmt::Formatter<W>) -> fmt::Result {
         for digit in self.bits.chunks(4) {
-            let mut value = 0u8;
-            for bit in digit {
-                value = (value << 1 | (*bit & 1)) & 15;
-            }
+            let value = digit
+                .iter()
+                .fold(0u8, |value, bit| (value << 1 | (*bit & 1)) & 15);
             write!(f, "{value:X}")?;
         }
         Ok(())

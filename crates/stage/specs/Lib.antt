@@ -3,6 +3,7 @@ pub mod Gather
 pub mod Ranges
 pub mod Meaning
 pub mod Refusals
+pub mod Words
 pub mod Calls
 pub mod Rule
 pub mod Paired

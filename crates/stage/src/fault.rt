@@ -1,20 +1,18 @@
-ghost use Rattle.std.specs.Prelude.{◌≡◌};
+ghost use Rattle.std.specs.Prelude.{◌≡◌, Some};
 ghost use Rattle.stage.specs.Refusals.{fault_number};
+ghost use Rattle.stage.specs.Words.{fault_words};
+
+use std::error::Error;
+use std::fmt;
 
 // Why a call of a stage is refused.
 #[derive(Clone, Copy, PartialEq, Eq, Debug)]
 pub enum StageFault {
-    // The work or side buffer is short.
     ShortBuffer = 4,
-    // The setting is out of range.
     BadSetting = 5,
-    // There is no word at this length.
     NoWord = 6,
-    // The way back is not covering.
     NotCovering = 7,
-    // A byte of the block or word is neither 0 nor 1.
     NotBits = 8,
-    // No block has this word.
     NoBlock = 9,
 }
 
@@ -25,3 +23,22 @@ impl StageFault {
         self as u8
     }
 }
+
+impl fmt::Display for StageFault {
+    ghost output = { λ fault. Some (fault_words fault) };
+
+    fn fmt<W: fmt::Write>(&self, f: &mut fmt::Formatter<W>) -> fmt::Result {
+        f.write_str(match self {
+            StageFault::ShortBuffer => "work or side buffer short",
+            StageFault::BadSetting => "setting out of range",
+            StageFault::NoWord => "no word at this length",
+            StageFault::NotCovering => {
+                "the chain does not cover, so words do not tell blocks apart"
+            }
+            StageFault::NotBits => "a byte is neither 0 nor 1",
+            StageFault::NoBlock => "no block has this word",
+        })
+    }
+}
+
+impl Error for StageFault {}
