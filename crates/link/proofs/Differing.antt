@@ -1,7 +1,6 @@
 -- The data subframes of a grant, one by one, and how those of two blocks differ. Assumes nothing.
-use Rattle.std.proofs.Common.{◌≡◌, ℕ, zero, suc, ◌*◌, ◌^◌, ◌<◌, ◌≤◌, Bool, true, false, cond, eqb, List, [], ◌∷◌, ◌++◌, length, take, drop, is_some, Some, None, Option, sym, refl, ap, ◌∙◌, subst, ap₂, subst₂, arith}
-use lib.Bits.{bit_xor}
-use Rattle.std.proofs.lemmas.Bool.{both_ways}
+use Rattle.std.proofs.Common.{◌≡◌, ℕ, zero, suc, ◌*◌, ◌^◌, ◌<◌, ◌≤◌, Bool, true, false, eqb, List, [], ◌∷◌, ◌++◌, length, take, drop, is_some, Some, None, Option, sym, refl, ap, ◌∙◌, arith}
+use Rattle.std.proofs.lemmas.Bool.{cond_both}
 use Rattle.stage.specs.Bits.{Bits, xor}
 use Rattle.stage.specs.Meaning.{Meaning, Lawful, word}
 use Rattle.stage.specs.Xors.{xor_nil, xor_medial, xor_self, xor-zeros, length_xor_same}
@@ -15,12 +14,11 @@ use Rattle.calendar.specs.Times.{after, closed, next_open, open_at}
 use Rattle.calendar.specs.Courses.{begun}
 use Rattle.calendar.proofs.Openings.{open_here, next_past, opens_first}
 use Rattle.air.specs.declared.fault.EndFault.{EndFault}
-use Rattle.air.specs.Ends.{End}
 use Rattle.air.specs.Refusals.{settled, offer_refusal, subframe_refusal, end_refusal}
 use Rattle.air.specs.Cells.{CellState, Sending, written, airs, one_sent, offered, stepped, part_of}
 use Rattle.link.specs.Calls.{Call, offer, subframe, withdraw}
-use Rattle.link.specs.Differences.{Aired, data_grid, airing, Alike, BothLast, At, DifferencesShow}
-use Rattle.link.proofs.Passing.{offer_passes}
+use Rattle.link.specs.Differences.{Aired, data_grid, airing, Alike, BothLast, DifferencesShow}
+use Rattle.link.proofs.Passing.{offer_admits}
 use Rattle.link.proofs.Mirrored.{Lasts, next, sent_next, lasts_next, sized, seeded}
 use Rattle.link.proofs.Homecoming.{carried, sending_new, lasts_new}
 
@@ -30,7 +28,7 @@ take-xor : (n : ℕ) (a b : List ℕ) → take n (xor a b) ≡ xor (take n a) (t
 take-xor zero a b = refl
 take-xor (suc n) [] b = refl
 take-xor (suc n) (x ∷ a) [] = refl
-take-xor (suc n) (x ∷ a) (y ∷ b) = ap (λ us. bit_xor x y ∷ us) (take-xor n a b)
+take-xor (suc n) (x ∷ a) (y ∷ b) = rw (take-xor n a b)
 
 drop-xor : (n : ℕ) (a b : List ℕ) → drop n (xor a b) ≡ xor (drop n a) (drop n b)
 drop-xor zero a b = refl
@@ -39,14 +37,12 @@ drop-xor (suc n) (x ∷ a) [] = sym (xor_nil (drop n a))
 drop-xor (suc n) (x ∷ a) (y ∷ b) = drop-xor n a b
 
 part_xor : (p : ℕ) (a b : List ℕ) → part_of p (xor a b) ≡ xor (part_of p a) (part_of p b)
-part_xor p a b = ap (take 320) (drop-xor (320 * p) a b) ∙ take-xor 320 (drop (320 * p) a) (drop (320 * p) b)
+part_xor p a b = rw (drop-xor (320 * p) a b) (take-xor 320 (drop (320 * p) a) (drop (320 * p) b))
 
 -- one offset on both is none
 xor_offset : (a b o : List ℕ) → length a ≡ length o → length b ≡ length o → xor (xor a o) (xor b o) ≡ xor a b
 xor_offset a b o p q =
-    xor_medial a o b o
-    ∙ ap (xor (xor a b)) (xor_self o)
-    ∙ xor-zeros (xor a b) (length o) (omega (arith, length_xor_same a b (p ∙ sym q), p))
+    rw (xor_medial a o b o, xor_self o) (xor-zeros (xor a b) (length o) (omega (arith, length_xor_same a b (p ∙ sym q))))
 
 module _ {m : Meaning} (law : Lawful m) (n e seed : ℕ) (some : 0 < m.size n e) (low : seed < 2 ^ 31) where
   words_differ : (a b : List ℕ) → Bits n a → Bits n b → xor (word m n e seed a) (word m n e seed b) ≡ m.image n e (xor a b)
@@ -70,10 +66,6 @@ module _ {X : Type 0} (K : Kind X) (kind : LawfulKind K) (identity : ℕ) (small
   AirsOn g start block k [] = Unit {0}
   AirsOn g start block k (x ∷ xs) = Airs g start block k x × AirsOn g start block (suc k) xs
 
-  nothing_airs : (t : Time) (xs : List (Call X)) → airing K (cell t None) xs ≡ []
-  nothing_airs t [] = refl
-  nothing_airs t (x ∷ xs) = refl
-
   abbrev Goes_on : List (Call X) → Time → Sending → Type 0
   Goes_on xs t s = AirsOn s.going.grant s.going.start s.block s.going.gone (airing K (cell t (Some s)) xs)
 
@@ -82,20 +74,18 @@ module _ {X : Type 0} (K : Kind X) (kind : LawfulKind K) (identity : ℕ) (small
 
   -- nothing more airs once the grant is over
   over : (g : Grant) (start : Time) (block : List ℕ) (k : ℕ) (t : Time) (xs : List (Call X)) → AirsOn g start block k (airing K (cell t None) xs)
-  over g start block k t xs = subst (λ us. AirsOn g start block k us) (sym (nothing_airs t xs)) tt
+  over g start block k t [] = tt
+  over g start block k t (x ∷ xs) = tt
 
   -- the rest of a grant's subframes, if it goes on
   rest_airs : (t : Time) (s : Sending) (xs : List (Call X))
       → (eqb (owed s.going.grant s.going.gone) 0 ≡ false → Goes_on xs t (next s))
       → AirsOn s.going.grant s.going.start s.block (suc s.going.gone) (airing K (cell t (one_sent s)) xs)
   rest_airs t s xs f =
-      subst (λ p. AirsOn s.going.grant s.going.start s.block (suc s.going.gone) (airing K (cell t p) xs)) (sym (sent_next s))
-      (go (eqb (owed s.going.grant s.going.gone) 0) refl)
-    where
-      go : (b : Bool) → eqb (owed s.going.grant s.going.gone) 0 ≡ b
-          → AirsOn s.going.grant s.going.start s.block (suc s.going.gone) (airing K (cell t (cond b None (Some (next s)))) xs)
-      go true e = over s.going.grant s.going.start s.block (suc s.going.gone) t xs
-      go false e = f e
+      rw (sent_next s)
+      (cond_both (eqb (owed s.going.grant s.going.gone) 0) None (Some (next s))
+      (λ p. AirsOn s.going.grant s.going.start s.block (suc s.going.gone) (airing K (cell t p) xs))
+      (λ _. over s.going.grant s.going.start s.block (suc s.going.gone) t xs) f)
 
   -- an accepted subframe call
   airs_one : (t : Time) (s : Sending) (xs : List (Call X)) → EachGoesOn xs → Lasts m s
@@ -116,7 +106,7 @@ module _ {X : Type 0} (K : Kind X) (kind : LawfulKind K) (identity : ℕ) (small
       go : (r : Option EndFault) → offer_refusal m true g work side ≡ r
           → AirsOn s.going.grant s.going.start s.block s.going.gone
           (airing K (settled r (cell t (Some s)) (offered (cell t (Some s)) g work)) xs)
-      go None e = absurd (both_ways true (offer_passes m true g work side e).0.1.1.1.1.0 refl)
+      go None e = let f = (offer_admits m true g work side e).free in cc
       go (Some f) e = ih t s lasts n
   one_more (subframe work side grid) xs ih t s lasts n = go (subframe_refusal work side (length grid))
     where
@@ -146,15 +136,14 @@ module _ {X : Type 0} (K : Kind X) (kind : LawfulKind K) (identity : ℕ) (small
       second = q.bits_are;
       difference = λ u v e f.
           (let s : Sending = record { going = begun g start; block = a } in
-          let wa = word m g.length (output g) (seed_at identity g start k) a in
-          let wb = word m g.length (output g) (seed_at identity g start k) b in
-          let eu : u ≡ part_of (part_at g k) wa = cc (sym e ∙ p.bits_are) in
-          let ev : v ≡ part_of (part_at g k) wb = cc (sym f ∙ q.bits_are) in
-          ap₂ xor eu ev
-          ∙ sym (part_xor (part_at g k) wa wb)
+          let seed = seed_at identity g start k in
+          let eu : u ≡ part_of (part_at g k) (word m g.length (output g) seed a) = cc (p.bits_are) in
+          let ev : v ≡ part_of (part_at g k) (word m g.length (output g) seed b) = cc (q.bits_are) in
+          rw (eu, ev)
+          (sym (part_xor (part_at g k) _ _)
           ∙ ap (part_of (part_at g k))
-          (words_differ law g.length (output g) (seed_at identity g start k) (sized identity small m law s lasts_a)
-          (seeded identity small m law s lasts_a k) a b lasts_a.bits lasts_b.bits));
+          (words_differ law g.length (output g) seed (sized identity small m law s lasts_a) (seeded identity small m law s lasts_a k) a b
+          lasts_a.bits lasts_b.bits)));
     }
 
     both : (k : ℕ) (xs ys : List (Aired X)) → AirsOn g start a k xs → AirsOn g start b k ys → BothLast (Alike K identity m g start a b) k xs ys
@@ -162,24 +151,13 @@ module _ {X : Type 0} (K : Kind X) (kind : LawfulKind K) (identity : ℕ) (small
     both k (x ∷ xs) [] p q = tt
     both k (x ∷ xs) (y ∷ ys) p q = (alike k x y p.0 q.0, both (suc k) xs ys p.1 q.1)
 
--- a cell after it accepted a grant
-offered_is : (e : End) (m : Meaning) (c : CellState) → At e m c → (g : Grant) (work : List ℕ)
-    → offered c g work ≡ record { identity = e.identity; time = e.time; chain = m; pending = Some (sending_new g work e.time) }
-offered_is e m c at g work = λ i. record {
-  identity = at.identity_is i;
-  time = at.time_is i;
-  chain = at.chain_is i;
-  pending = Some (sending_new g work (at.time_is i));
-}
-
 module _ {X : Type 0} (K : Kind X) (kind : LawfulKind K) where
   pub differences_show : DifferencesShow K
   differences_show m law e range c d at_c at_d g work side work' side' p q calls calls' =
-      let lasts = lasts_new m (is_some c.pending) g work side e.time p range.2 in
-      let lasts' = lasts_new m (is_some d.pending) g work' side' e.time q range.2 in
+      let lasts = lasts_new m (is_some c.pending) g work side e.time p range.timed in
+      let lasts' = lasts_new m (is_some d.pending) g work' side' e.time q range.timed in
       let begins = sym (opens_first e.time) in
-      subst₂ (λ u v. BothLast (Alike K e.identity m g e.time (take g.length work) (take g.length work')) 0 (airing K u calls) (airing K v calls'))
-      (sym (offered_is e m c at_c g work)) (sym (offered_is e m d at_d g work'))
-      (both K kind e.identity range.0 m law g e.time (take g.length work) (take g.length work') lasts lasts' 0 _ _
-      (airs_right K kind e.identity range.0 m law calls e.time (sending_new g work e.time) lasts begins)
-      (airs_right K kind e.identity range.0 m law calls' e.time (sending_new g work' e.time) lasts' begins))
+      rw (at_c.identity_is, at_c.time_is, at_c.chain_is, at_d.identity_is, at_d.time_is, at_d.chain_is)
+      (both K kind e.identity range.known m law g e.time (take g.length work) (take g.length work') lasts lasts' 0 _ _
+      (airs_right K kind e.identity range.known m law calls e.time (sending_new g work e.time) lasts begins)
+      (airs_right K kind e.identity range.known m law calls' e.time (sending_new g work' e.time) lasts' begins))

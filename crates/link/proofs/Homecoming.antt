@@ -1,8 +1,7 @@
 -- After every list of calls, the terminal and the account are what the cell makes them. Assumes nothing.
-use Rattle.std.proofs.Common.{◌≡◌, ℕ, ◌*◌, ◌≤◌, Bool, true, false, cond, not, ◌&&◌, eqb, leb, List, [], ◌∷◌, ◌++◌, length, take, is_some, IfSome, Some, None, Option, unwrap_or, sym, refl, ap, ◌∙◌, subst, ap₂, subst₂, arith}
-use Rattle.std.proofs.lemmas.Bool.{and_parts, and_right, not-false, leb-true, both_ways}
-use Rattle.std.proofs.lemmas.List.{append-nil, append_assoc, length-take-le}
-use Rattle.stage.specs.Bits.{binary}
+use Rattle.std.proofs.Common.{◌≡◌, ℕ, ◌≤◌, Bool, true, false, cond, not, ◌&&◌, eqb, List, [], ◌∷◌, ◌++◌, length, take, is_some, IfSome, Some, None, Option, unwrap_or, sym, refl, ap, ◌∙◌, subst, ap₂, subst₂, arith}
+use Rattle.std.proofs.lemmas.Bool.{and_right, cond_both}
+use Rattle.std.proofs.lemmas.List.{append-nil, append_assoc}
 use Rattle.stage.specs.Meaning.{Meaning, Lawful}
 use Rattle.stage.specs.Refusals.{short}
 use Rattle.stage.proofs.Binary.{binary-at}
@@ -11,25 +10,23 @@ use Rattle.grid.specs.Grids.{carrying, aired_bits}
 use Rattle.grid.proofs.Carried.{length-vacant, length_marked, length-carrying, read_back}
 use Rattle.calendar.specs.declared.time.Time.{Time}
 use Rattle.calendar.specs.declared.grant.Grant.{Grant}
-use Rattle.calendar.specs.Grants.{part_bits, rnti_allowed, count_allowed, repetitions_allowed, length_allowed, output}
-use Rattle.calendar.specs.Rounds.{owed, first_copy, last_part}
+use Rattle.calendar.specs.Grants.{output}
+use Rattle.calendar.specs.Rounds.{owed, first_copy}
 use Rattle.calendar.specs.Times.{after, closed}
 use Rattle.calendar.specs.Courses.{begun}
-use Rattle.calendar.proofs.Counting.{copies_some, count_some, whole_some, reads_none}
+use Rattle.calendar.proofs.Counting.{whole_some, reads_none}
 use Rattle.calendar.proofs.Openings.{after_small}
 use Rattle.air.specs.declared.fault.EndFault.{EndFault}
-use Rattle.air.specs.declared.fault.EndFault.TheVariants.{ShortBuffer, GridSize, ShortBlock, NoPair}
-use Rattle.air.specs.Ends.{End}
-use Rattle.air.specs.Refusals.{settled, grant_tests, offer_refusal, end_refusal}
-use Rattle.air.specs.Cells.{CellState, Sending, written, airs, one_sent, offered, with_pending, sent_bits, is_covered}
-use Rattle.air.specs.Terminals.{TerminalState, Awaiting, awaited_length, short_block, due, expecting, hear_refusal, hears, heard, hearing}
-use Rattle.air.proofs.Ordered.{Passes}
+use Rattle.air.specs.Ends.{End, InRange}
+use Rattle.air.specs.Refusals.{settled, offer_refusal, end_refusal}
+use Rattle.air.specs.Cells.{CellState, Sending, written, airs, offered, with_pending, sent_bits, is_covered}
+use Rattle.air.specs.Terminals.{TerminalState, Awaiting, awaited_length, short_block, due, hear_refusal, hears, heard, hearing}
 use Rattle.link.specs.Calls.{Call, offer, subframe, withdraw, refusal, turned_down, accepting}
 use Rattle.link.specs.Account.{Account, ticking, booking, booked, opened}
 use Rattle.link.specs.Following.{LinkState, Buffers, on_air, told, forgot, handed_at, hearkens, following, linked_on, handed_on, Serves}
 use Rattle.link.specs.Home.{Run, handed_over, Served, accounted, BlocksComeHome}
-use Rattle.link.proofs.Passing.{none_fails, offer_passes, expect_accepts, size_passed, length_most, long_enough}
-use Rattle.link.proofs.Mirrored.{Lasts, word_at, mirror, awaiting, noting, next, sent_next, lasts_next, noted_next, sent_is, Right, right, joins_is, uncovered_next, uncovered_joins}
+use Rattle.link.proofs.Passing.{Admitted, offer_admits, expect_accepts}
+use Rattle.link.proofs.Mirrored.{Lasts, mirror, awaiting, noting, next, sent_next, lasts_next, noted_next, sent_is, right, joins_is, uncovered_next, uncovered_joins}
 
 -- ---- what holds between calls
 
@@ -81,26 +78,20 @@ module _ {X : Type 0} (K : Kind X) (kind : LawfulKind K) (identity : ℕ) (small
       → (due shut a && not (is_some (aired_bits K identity grid))) ≡ false
       → hear_refusal K identity shut a work side buffer grid ≡ None
   unfolding hear_refusal
-  hears_it shut a work side buffer grid h l b d =
-      none_fails ((short work side, ShortBuffer) ∷ (not (eqb (length grid) 168), GridSize) ∷ (short_block a buffer, ShortBlock)
-      ∷ (due shut a && not (is_some (aired_bits K identity grid)), NoPair) ∷ [])
-      (h, (ap (λ n. not (eqb n 168)) l, (b, (d, tt))))
+  hears_it shut a work side buffer grid h l b d = rw (h, l, b, d)
 
   follows_covered : (s : Sending) (lasts : Lasts m s) (work side buffer : List ℕ) → short work side ≡ false
       → short_block (Some (mirror identity m s)) buffer ≡ false → m.covers s.going.grant.length (output s.going.grant) ≡ true
       → Follows (Some (mirror identity m s)) false (Some s) work side buffer
   follows_covered s lasts work side buffer h b cov =
       let air = carried s lasts in
-      let good = subst (λ (v : List ℕ). Right identity small m law s lasts cov
-      (hearing identity m false (Some (mirror identity m s)) v buffer)
-      (first_copy s.going.grant s.going.gone && last_part s.going.grant s.going.gone))
-      (sym (ap (λ o. unwrap_or o []) air)) (right identity small m law s lasts cov buffer _ _ refl refl) in
+      let good = right identity small m law s lasts cov buffer _ _ refl refl in
       record {
         accepted = hears_it false (Some (mirror identity m s)) work side buffer (written K identity m t false (Some s)).grid h
             (length-carrying K 168 identity t.subframe (sent_bits identity m s)) b
             (and_right (first_copy s.going.grant s.going.gone) _ (ap (λ o. not (is_some o)) air));
-        awaited_is = good.awaited_is;
-        handed_is = good.handed_is ∙ sym (joins_is identity small m law s lasts cov);
+        awaited_is = rw air good.awaited_is;
+        handed_is = rw air (good.handed_is ∙ sym (joins_is identity small m law s lasts cov));
         noted_is = noted_next m s lasts;
       }
 
@@ -132,26 +123,15 @@ module _ {X : Type 0} (K : Kind X) (kind : LawfulKind K) (identity : ℕ) (small
   follows false (Some s) lasts work side buffer h b = go (m.covers s.going.grant.length (output s.going.grant)) refl
     where
       go : (v : Bool) → m.covers s.going.grant.length (output s.going.grant) ≡ v → Follows (awaiting identity m (Some s)) false (Some s) work side buffer
-      go true e =
-          let is : awaiting identity m (Some s) ≡ Some (mirror identity m s) = ap (λ v. cond v (Some (mirror identity m s)) None) e in
-          subst (λ a. Follows a false (Some s) work side buffer) (sym is)
-          (follows_covered s lasts work side buffer h (subst (λ a. short_block a buffer ≡ false) is b) e)
-      go false e =
-          let is : awaiting identity m (Some s) ≡ None = ap (λ v. cond v (Some (mirror identity m s)) None) e in
-          subst (λ a. Follows a false (Some s) work side buffer) (sym is) (follows_other s lasts work side buffer h e)
-
-pends_next : (m : Meaning) (s : Sending) → Lasts m s → Pending m (one_sent s)
-pends_next m s lasts = subst (Pending m) (sym (sent_next s)) (go (eqb (owed s.going.grant s.going.gone) 0) refl)
-  where
-    go : (b : Bool) → eqb (owed s.going.grant s.going.gone) 0 ≡ b → Pending m (cond b None (Some (next s)))
-    go true e = tt
-    go false e = lasts_next m s lasts e
+      go true e = rw e (follows_covered s lasts work side buffer h (rw e at b) e)
+      go false e = rw e (follows_other s lasts work side buffer h e)
 
 pends_after : {X : Type 0} (K : Kind X) (identity : ℕ) (m : Meaning) (t : Time) (shut : Bool) (p : Option Sending) → Pending m p
     → Pending m (written K identity m t shut p).pending
 pends_after K identity m t true p lasts = lasts
 pends_after K identity m t false None lasts = tt
-pends_after K identity m t false (Some s) lasts = pends_next m s lasts
+pends_after K identity m t false (Some s) lasts =
+    rw (sent_next s) (cond_both (eqb (owed s.going.grant s.going.gone) 0) None (Some (next s)) (Pending m) (λ _. tt) (lasts_next m s lasts))
 
 -- ---- an offer
 
@@ -162,66 +142,36 @@ sending_new g work t = record { going = begun g t; block = take g.length work }
 pub lasts_new : (m : Meaning) (busy : Bool) (g : Grant) (work side : List ℕ) (t : Time) → offer_refusal m busy g work side ≡ None
     → t.subframe ≤ 9 → Lasts m (sending_new g work t)
 lasts_new m busy g work side t e timed =
-    let passed = offer_passes m busy g work side e in
-    let p = passed.0 in
-    let counted = not-false (count_allowed g) p.1.0 in
-    let repeated = not-false (repetitions_allowed g) p.1.1.0 in
-    let sized = not-false (length_allowed g) p.1.1.1.0 in
+    let a = offer_admits m busy g work side e in
     record {
-      few = copies_some g repeated;
-      some = count_some g counted;
-      called = leb-true g.rnti 65535 (and_parts (leb 1 g.rnti) (leb g.rnti 65535) (not-false (rnti_allowed g) p.0)).1;
-      long = length_most g sized;
-      size = size_passed m busy g p;
-      bits = (length-take-le g.length work (long_enough g work side sized passed.2), not-false (binary (take g.length work)) passed.1);
-      more = whole_some g counted repeated;
+      allowed = a.allowed;
+      size = a.size;
+      bits = a.bits;
+      more = whole_some g a.allowed.counted a.allowed.repeated;
       timed = timed;
     }
 
-awaiting_none : (identity : ℕ) (m : Meaning) (p : Option Sending) → is_some p ≡ false → awaiting identity m p ≡ None
-awaiting_none identity m None h = refl
-awaiting_none identity m (Some s) h = absurd (both_ways true h refl)
-
 -- the terminal is told of the grant, where it is covered
-told_is : (c : CellState) (g : Grant) (work : List ℕ) → Passes (grant_tests c.chain (is_some c.pending) g)
-    → Lasts c.chain (sending_new g work c.time) → (v : Bool) → c.chain.covers g.length (output g) ≡ v
-    → cond v (told (companion c) g) (companion c) ≡ companion (offered c g work)
-told_is c g work p lasts true e =
-    let none = awaiting_none c.identity c.chain c.pending p.1.1.1.1.0 in
-    let idle : is_some c.pending ≡ is_some (companion c).awaited = p.1.1.1.1.0 ∙ ap is_some (sym none) in
-    let fine = expect_accepts c.chain (is_some (companion c).awaited) g (subst (λ b. Passes (grant_tests c.chain b g)) idle p) e in
-    ap (λ r. settled r (companion c) (expecting (companion c) g)) fine
-    ∙ ap₂ (λ (n : ℕ) (v : Bool). record {
-      identity = c.identity;
-      time = c.time;
-      chain = c.chain;
-      awaited = cond v (Some (record {
-        going = begun g c.time;
-        read = take (part_bits * n) (word_at c.identity c.chain (sending_new g work c.time) 0);
-      })) None;
-    })
-    (sym (reads_none g)) (sym e)
-told_is c g work p lasts false e =
-    ap (λ a. record { identity = c.identity; time = c.time; chain = c.chain; awaited = a })
-    (awaiting_none c.identity c.chain c.pending p.1.1.1.1.0
-    ∙ ap (λ v. cond v (Some (mirror c.identity c.chain (sending_new g work c.time))) None) (sym e))
+told_is : (c : CellState) (g : Grant) (work : List ℕ) (p : Option Sending) → Admitted c.chain (is_some p) g (take g.length work)
+    → (v : Bool) → c.chain.covers g.length (output g) ≡ v
+    → cond v (told (companion (with_pending c p)) g) (companion (with_pending c p)) ≡ companion (offered c g work)
+told_is c g work (Some s) a v e = cc (a.free)
+told_is c g work None a true e = rw (expect_accepts c.chain false g (take g.length work) a e, e, reads_none g)
+told_is c g work None a false e = rw e
 
 -- ---- a withdrawal
 
 forgot_is : (c : CellState) (p : Option Sending)
-    → cond (is_covered c.chain p)
-    (forgot (record { identity = c.identity; time = c.time; chain = c.chain; awaited = awaiting c.identity c.chain p }))
-    (record { identity = c.identity; time = c.time; chain = c.chain; awaited = awaiting c.identity c.chain p })
-    ≡ companion (with_pending c None)
+    → cond (is_covered c.chain p) (forgot (companion (with_pending c p))) (companion (with_pending c p)) ≡ companion (with_pending c None)
 unfolding end_refusal
 forgot_is c None = refl
-forgot_is c (Some s) =
-    elim (c.chain.covers s.going.grant.length (output s.going.grant)) as (λ v.
-    cond v
-    (forgot (record { identity = c.identity; time = c.time; chain = c.chain; awaited = cond v (Some (mirror c.identity c.chain s)) None }))
-    (record { identity = c.identity; time = c.time; chain = c.chain; awaited = cond v (Some (mirror c.identity c.chain s)) None })
-    ≡ companion (with_pending c None))
-    [ true ↦ refl | false ↦ refl ]
+forgot_is c (Some s) = go (c.chain.covers s.going.grant.length (output s.going.grant)) refl
+  where
+    go : (v : Bool) → c.chain.covers s.going.grant.length (output s.going.grant) ≡ v
+        → cond (is_covered c.chain (Some s)) (forgot (companion (with_pending c (Some s)))) (companion (with_pending c (Some s)))
+        ≡ companion (with_pending c None)
+    go true e = rw e
+    go false e = rw e
 
 -- ---- any call
 
@@ -250,7 +200,7 @@ module _ {X : Type 0} (K : Kind X) (kind : LawfulKind K) where
       let lasts = lasts_new c.chain (is_some c.pending) g work side c.time e sound.timed in
       record {
         sound = record { small = sound.small; timed = sound.timed; law = sound.law; pends = lasts };
-        terminal_is = told_is c g work (offer_passes c.chain (is_some c.pending) g work side e).0 lasts (c.chain.covers g.length (output g)) refl;
+        terminal_is = told_is c g work c.pending (offer_admits c.chain (is_some c.pending) g work side e) (c.chain.covers g.length (output g)) refl;
         account_is = ap (account_of (offered c g work)) (sym (append-nil blocks));
       }
   accepted_call c blocks b (subframe work side grid) sound serves e =
@@ -309,12 +259,12 @@ module _ {X : Type 0} (K : Kind X) (kind : LawfulKind K) where
       ∙ running xs (linked_on K l x.1 x.0) (booked a x.0) (blocks ++ handed_on K l x.1 x.0)
       (stepping l a blocks x.1 x.0 tied served.0) served.1
 
-  pub blocks_come_home : (m : Meaning) → Lawful m → (e : End) → e.identity ≤ 503 → e.time.subframe ≤ 9
-      → BlocksComeHome K (on_air e m) (opened e m)
-  blocks_come_home m law e small timed calls served =
-      running calls (on_air e m) (opened e m) []
-      (record {
-        sound = record { small = small; timed = timed; law = law; pends = tt };
+  pub blocks_come_home : (m : Meaning) → Lawful m → (e : End) → InRange e → (l : LinkState) → l ≡ on_air e m
+      → BlocksComeHome K l (opened e m)
+  blocks_come_home m law e range l is calls served =
+      running calls l (opened e m) []
+      (rw is (record {
+        sound = record { small = range.known; timed = range.timed; law = law; pends = tt };
         terminal_is = refl;
         account_is = refl;
-      }) served
+      })) served

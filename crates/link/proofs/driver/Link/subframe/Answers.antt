@@ -1,5 +1,4 @@
 use Rattle.std.proofs.Common.{length, Ok, sym, ap, ◌∙◌, subst, ap₂}
-use Rattle.std.proofs.lemmas.Bool.{true≢false}
 use Rattle.std.specs.Result.{result_err, result_unwrap_or}
 use Rattle.air.specs.Terminals.{TerminalState, short_block}
 use Rattle.link.specs.Following.{LinkState}
@@ -35,5 +34,5 @@ returns g c =
       block = on.buffers (result_err c.hear-heard.result) c.hear-heard.new.self.block heard.refusal heard.block;
       work = heard.work ∙ stays_zero (result_err c.hear-heard.result) (length work) last.work aired.work;
       side = heard.side ∙ stays_zero (result_err c.hear-heard.result) (length side) last.side aired.side;
-      untouched = λ e. absurd (true≢false e);
+      untouched = tt;
     }
