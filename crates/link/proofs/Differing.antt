@@ -106,7 +106,7 @@ module _ {X : Type 0} (K : Kind X) (kind : LawfulKind K) (identity : ℕ) (small
       go : (r : Option EndFault) → offer_refusal m true g work side ≡ r
           → AirsOn s.going.grant s.going.start s.block s.going.gone
           (airing K (settled r (cell t (Some s)) (offered (cell t (Some s)) g work)) xs)
-      go None e = let f = (offer_admits m true g work side e).free in cc
+      go None e = cc ((offer_admits m true g work side e).0)
       go (Some f) e = ih t s lasts n
   one_more (subframe work side grid) xs ih t s lasts n = go (subframe_refusal work side (length grid))
     where
@@ -143,7 +143,7 @@ module _ {X : Type 0} (K : Kind X) (kind : LawfulKind K) (identity : ℕ) (small
           (sym (part_xor (part_at g k) _ _)
           ∙ ap (part_of (part_at g k))
           (words_differ law g.length (output g) seed (sized identity small m law s lasts_a) (seeded identity small m law s lasts_a k) a b
-          lasts_a.bits lasts_b.bits)));
+          lasts_a.admitted.bits lasts_b.admitted.bits)));
     }
 
     both : (k : ℕ) (xs ys : List (Aired X)) → AirsOn g start a k xs → AirsOn g start b k ys → BothLast (Alike K identity m g start a b) k xs ys

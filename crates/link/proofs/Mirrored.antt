@@ -1,5 +1,5 @@
 -- A terminal that has followed a cell hears its subframe as the account ticks it. Assumes nothing.
-use Rattle.std.proofs.Common.{◌≡◌, ℕ, suc, ◌+◌, ◌*◌, ◌^◌, ◌<◌, ◌≤◌, Bool, true, false, cond, ◌&&◌, eqb, leb, List, [], ◌∷◌, ◌++◌, length, take, drop, Some, None, Option, sym, refl, ap, add-one, arith, rules}
+use Rattle.std.proofs.Common.{◌≡◌, ℕ, suc, ◌+◌, ◌*◌, ◌^◌, ◌<◌, ◌≤◌, Bool, true, false, cond, eqb, leb, List, ◌++◌, length, take, drop, Some, None, Option, sym, refl, ap, add-one, arith, rules}
 use Rattle.std.proofs.Math.Seq.{take-add}
 use Rattle.std.proofs.lemmas.Bool.{and_parts, cond_both, eqb-true, eqb-false, leb-true}
 use Rattle.std.proofs.lemmas.List.{length-take-le, length-drop, take_all, take_at}
@@ -8,15 +8,16 @@ use Rattle.stage.specs.Meaning.{Meaning, Lawful, word}
 use Rattle.stage.proofs.Binary.{binary-take, binary-drop}
 use Rattle.stage.specs.Paired.{word_bits}
 use Rattle.calendar.specs.declared.grant.Grant.{Grant}
-use Rattle.calendar.specs.Grants.{Allowed, part_bits, output}
+use Rattle.calendar.specs.Grants.{part_bits, output}
 use Rattle.calendar.specs.Rounds.{copies, whole, owed, part_at, first_copy, last_part, seed_at}
 use Rattle.calendar.proofs.Counting.{copies_some, count_some, reads, seed_first, reads_now, reads_next, reads_same, part_below, last_gone}
 use Rattle.calendar.proofs.Rounds.{seed_small}
 use Rattle.air.specs.Cells.{Sending, part_of, sent_bits, one_sent}
-use Rattle.air.specs.Terminals.{Awaiting, Hearing, one_heard, finished, reading, block_of}
+use Rattle.air.specs.Terminals.{Awaiting, Hearing, awaited_length, one_heard, reading, hearing, block_of}
 use Rattle.air.proofs.Found.{found_own}
 use Rattle.link.specs.Account.{Note, joins, noted_on}
 use Rattle.link.specs.Following.{handed_at}
+use Rattle.link.proofs.Passing.{Admitted}
 use Rattle.link.proofs.Ticking.{ticked_after, completing}
 
 part_is : (n p : ℕ) (w : List ℕ) → Bits (part_bits * n) w → p < n → Bits part_bits (part_of p w)
@@ -28,9 +29,7 @@ part_is n p w h low =
 
 -- an accepted grant that is not over
 pub record Lasts (m : Meaning) (s : Sending) : Type 0 where
-  pub allowed : Allowed s.going.grant
-  pub size : m.size s.going.grant.length (output s.going.grant) ≡ output s.going.grant
-  pub bits : Bits s.going.grant.length s.block
+  pub admitted : Admitted m s.going.grant s.block
   pub more : s.going.gone < whole s.going.grant
   pub timed : s.going.start.subframe ≤ 9
 
@@ -74,9 +73,7 @@ sent_next s = rw add-one (search rules)
 pub lasts_next : (m : Meaning) (s : Sending) → Lasts m s → eqb (owed s.going.grant s.going.gone) 0 ≡ false → Lasts m (next s)
 lasts_next m s lasts e =
     record {
-      allowed = lasts.allowed;
-      size = lasts.size;
-      bits = lasts.bits;
+      admitted = lasts.admitted;
       more = (let ne = eqb-false (owed s.going.grant s.going.gone) 0 e in omega (arith, lasts.more));
       timed = lasts.timed;
     }
@@ -96,21 +93,21 @@ module _ (identity : ℕ) (small : identity ≤ 503) (m : Meaning) (law : Lawful
   w = word_at identity m s 0
 
   few : 0 < copies g
-  few = copies_some g lasts.allowed.repeated
+  few = copies_some g lasts.admitted.allowed.repeated
 
   some : 0 < g.subframes
-  some = count_some g lasts.allowed.counted
+  some = count_some g lasts.admitted.allowed.counted
 
   pub sized : 0 < m.size g.length (output g)
-  sized = omega (arith, lasts.size, some)
+  sized = omega (arith, lasts.admitted.size, some)
 
   pub seeded : (k : ℕ) → seed_at identity g s.going.start k < 2 ^ 31
   seeded k =
       seed_small identity g s.going.start k small
-      (leb-true g.rnti 65535 (and_parts (leb 1 g.rnti) (leb g.rnti 65535) lasts.allowed.called).1) (omega (arith, lasts.timed))
+      (leb-true g.rnti 65535 (and_parts (leb 1 g.rnti) (leb g.rnti 65535) lasts.admitted.allowed.called).1) (omega (arith, lasts.timed))
 
   word_is : (k : ℕ) → Bits (part_bits * g.subframes) (word_at identity m s k)
-  word_is k = rw lasts.size at (word_bits law g.length (output g) (seed_at identity g s.going.start k) sized (seeded k) s.block lasts.bits)
+  word_is k = rw lasts.admitted.size at (word_bits law g.length (output g) (seed_at identity g s.going.start k) sized (seeded k) s.block lasts.admitted.bits)
 
   pub sent_is : Bits part_bits (sent_bits identity m s)
   sent_is = part_is g.subframes (part_at g k) (word_at identity m s k) (word_is k) (part_below g k few some)
@@ -137,41 +134,44 @@ module _ (identity : ℕ) (small : identity ≤ 503) (m : Meaning) (law : Lawful
         go true h = rw h
         go false h = rw (h, cov, e, add-one)
 
-    -- how a hearing has to come out
-    pub record Right (h : Hearing) (joined : Bool) : Type 0 where
-      pub awaited_is : h.awaited ≡ awaiting identity m (one_sent s)
-      pub handed_is : handed_at g.length h.outcome h.buffer ≡ cond joined (s.block ∷ []) []
-
-    done : (buffer : List ℕ) (o : Option (List ℕ)) → o ≡ Some s.block → (read : List ℕ) → read ≡ take (part_bits * reads g (suc k)) w
-        → Right (finished (mirror identity m s) read buffer o) true
-    done buffer o e read r =
-        rw e (record {
-          awaited_is = awaited_next read r;
-          handed_is = ap (λ b. b ∷ []) (take_at s.block (drop g.length buffer) g.length lasts.bits.0);
-        })
-
     -- the word that is read whole has the block
     found : first_copy g k ≡ true → last_part g k ≡ true
         → block_of m g.length (output g) (seed_at identity g s.going.start k) (take (part_bits * reads g k) w ++ sent_bits identity m s) ≡ Some s.block
     found e l =
         rw (read_more e, read_all e l, seed_first identity g s.going.start k e)
-        (found_own law g.length (output g) (seed_at identity g s.going.start 0) sized (seeded 0) cov s.block lasts.bits)
+        (found_own law g.length (output g) (seed_at identity g s.going.start 0) sized (seeded 0) cov s.block lasts.admitted.bits)
 
-    pub right : (buffer : List ℕ) (first last : Bool) → first_copy g k ≡ first → last_part g k ≡ last
-        → Right (reading identity m (mirror identity m s) (sent_bits identity m s) buffer first last) (first && last)
-    right buffer false last e l = record {
-      awaited_is = awaited_next _ (ap (λ (p : ℕ). take (320 * p) w) (sym (reads_same g k e)));
-      handed_is = refl;
-    }
-    right buffer true false e l = record { awaited_is = awaited_next _ (read_more e); handed_is = refl }
-    right buffer true true e l = done buffer _ (found e l) _ (read_more e)
+  -- how a hearing has to come out, at a block of n bits
+  pub record Right (n : ℕ) (h : Hearing) : Type 0 where
+    pub awaited_is : h.awaited ≡ awaiting identity m (one_sent s)
+    pub handed_is : handed_at n h.outcome h.buffer ≡ joins m (note_of s)
 
-    pub joins_is : joins m (note_of s) ≡ cond (first_copy g k && last_part g k) (s.block ∷ []) []
-    joins_is = rw (cov, completing g k few some)
+  right : m.covers g.length (output g) ≡ true → (buffer : List ℕ) (first last : Bool) → first_copy g k ≡ first → last_part g k ≡ last
+      → Right g.length (reading identity m (mirror identity m s) (sent_bits identity m s) buffer first last)
+  right cov buffer false last e l = record {
+    awaited_is = awaited_next cov _ (ap (λ (p : ℕ). take (320 * p) w) (sym (reads_same g k e)));
+    handed_is = rw (cov, completing g k few some, e);
+  }
+  right cov buffer true false e l = record {
+    awaited_is = awaited_next cov _ (read_more e);
+    handed_is = rw (cov, completing g k few some, e, l);
+  }
+  right cov buffer true true e l =
+      rw (found cov e l)
+      (record {
+        awaited_is = awaited_next cov _ (read_more e);
+        handed_is = rw (cov, completing g k few some, e, l, take_at s.block (drop g.length buffer) g.length lasts.admitted.bits.0);
+      })
 
-  pub uncovered_next : m.covers g.length (output g) ≡ false → awaiting identity m (one_sent s) ≡ None
-  uncovered_next cov =
-      rw (sent_next s) (cond_both (eqb (owed g k) 0) None (Some (next s)) (λ p. awaiting identity m p ≡ None) (λ _. refl) (λ _. rw cov))
-
-  pub uncovered_joins : m.covers g.length (output g) ≡ false → joins m (note_of s) ≡ []
-  uncovered_joins cov = rw cov
+  pub heard_right : (buffer : List ℕ)
+      → Right (awaited_length (awaiting identity m (Some s))) (hearing identity m false (awaiting identity m (Some s)) (sent_bits identity m s) buffer)
+  heard_right buffer = go (m.covers g.length (output g)) refl
+    where
+      go : (v : Bool) → m.covers g.length (output g) ≡ v
+          → Right (awaited_length (awaiting identity m (Some s))) (hearing identity m false (awaiting identity m (Some s)) (sent_bits identity m s) buffer)
+      go true cov = rw cov (right cov buffer _ _ refl refl)
+      go false cov = rw cov (record {
+        awaited_is = rw (sent_next s)
+            (cond_both (eqb (owed g k) 0) None (Some (next s)) (λ p. None ≡ awaiting identity m p) (λ _. refl) (λ _. rw cov));
+        handed_is = rw cov;
+      })

@@ -13,9 +13,8 @@ use Rattle.air.specs.declared.fault.EndFault.TheVariants.{ShortBuffer, Chain}
 use Rattle.air.specs.Refusals.{grant_tests, offer_refusal, expect_refusal}
 use Rattle.air.proofs.Ordered.{all_pass}
 
--- no grant was pending, this one is allowed, the chain's word has its length, and its block is bits
-pub record Admitted (m : Meaning) (busy : Bool) (g : Grant) (block : List ℕ) : Type 0 where
-  pub free : busy ≡ false
+-- the grant is allowed, the chain's word has its length, and its block is bits
+pub record Admitted (m : Meaning) (g : Grant) (block : List ℕ) : Type 0 where
   pub allowed : Allowed g
   pub size : m.size g.length (output g) ≡ output g
   pub bits : Bits g.length block
@@ -32,28 +31,29 @@ long_enough g work side a h =
     omega arith
 
 pub offer_admits : (m : Meaning) (busy : Bool) (g : Grant) (work side : List ℕ) → offer_refusal m busy g work side ≡ None
-    → Admitted m busy g (take g.length work)
+    → (busy ≡ false) × Admitted m g (take g.length work)
 unfolding offer_refusal
 offer_admits m busy g work side h =
     let p = all_pass ((short work side, ShortBuffer) ∷ grant_tests m busy g ++ ((not (binary (take g.length work)), Chain NotBits) ∷ [])) (sym h) in
     let q = p.1.1.1.1 in
-    let sized = not-false (length_allowed g) q.0 in
-    record {
-      free = q.1.0;
-      allowed = record {
-        called = not-false (rnti_allowed g) p.1.0;
-        counted = not-false (count_allowed g) p.1.1.0;
-        repeated = not-false (repetitions_allowed g) p.1.1.1.0;
-        sized = sized;
-      };
-      size = eqb-true (m.size g.length (output g)) (output g) (not-false _ (right_word _ _ q.1.1.1.0 q.1.1.0));
-      bits = (length-take-le g.length work (long_enough g work side sized p.0), not-false (binary (take g.length work)) q.1.1.1.1.0);
-    }
+    let sized = not-false (length_allowed g) q.0 in (
+      q.1.0,
+      record {
+        allowed = record {
+          called = not-false (rnti_allowed g) p.1.0;
+          counted = not-false (count_allowed g) p.1.1.0;
+          repeated = not-false (repetitions_allowed g) p.1.1.1.0;
+          sized = sized;
+        };
+        size = eqb-true (m.size g.length (output g)) (output g) (not-false _ (right_word _ _ q.1.1.1.0 q.1.1.0));
+        bits = (length-take-le g.length work (long_enough g work side sized p.0), not-false (binary (take g.length work)) q.1.1.1.1.0);
+      },
+    )
 
-pub expect_accepts : (m : Meaning) (busy : Bool) (g : Grant) (block : List ℕ) → Admitted m busy g block → m.covers g.length (output g) ≡ true
-    → expect_refusal m busy g ≡ None
+pub expect_accepts : (m : Meaning) (g : Grant) (block : List ℕ) → Admitted m g block → m.covers g.length (output g) ≡ true
+    → expect_refusal m false g ≡ None
 unfolding expect_refusal
-expect_accepts m busy g block a cov =
+expect_accepts m g block a cov =
     let some : eqb (output g) 0 ≡ false = ne_eqb (output g) 0 (λ e. let n = count_some g a.allowed.counted in omega arith) in
     let same : eqb (output g) (output g) ≡ true = eq-eqb (output g) (output g) refl in
-    rw (a.allowed.called, a.allowed.counted, a.allowed.repeated, a.allowed.sized, a.free, a.size, some, same, cov)
+    rw (a.allowed.called, a.allowed.counted, a.allowed.repeated, a.allowed.sized, a.size, some, same, cov)
