@@ -43,6 +43,7 @@ impl<S: Stage, P: Point> Link<S, P> {
     }
 
     // One subframe of the cell, which the terminal hears as written; a block goes to the sink. Tests 4 and 17.
+    #[tactic(auto, using(crate::proofs::Driving::long_zeros))]
     pub fn subframe<K: Sink>(
         &mut self,
         grid: &mut [P],

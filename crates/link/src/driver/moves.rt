@@ -13,6 +13,7 @@ use stage::stages::Stage;
 
 impl<S: Stage + Copy, P: Point> Link<S, P> {
     // Puts a cell and a terminal on air alike. Whatever list of calls follows, the terminal hands up exactly the blocks on the account.
+    #[tactic(auto, using(crate::proofs::Homecoming::blocks_come_home))]
     pub fn on_air(parked: Parked, chain: S) -> Link<S, P>
         ensures alike { link_of S.Stage.meaning result ≡ on_air parked (S.Stage.meaning chain) }
         ensures block { result.block ≡ zeros 2536 }
