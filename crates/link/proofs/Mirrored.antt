@@ -1,7 +1,7 @@
 -- A terminal that has followed a cell hears its subframe as the account ticks it. Assumes nothing.
-use Rattle.std.proofs.Common.{◌≡◌, ℕ, zero, suc, ◌+◌, ◌*◌, ◌^◌, ◌<◌, ◌≤◌, Bool, true, false, cond, ◌&&◌, eqb, List, [], ◌∷◌, ◌++◌, length, take, drop, Some, None, Option, sym, refl, ap, ◌∙◌, subst, ap₂, suc-add, zero-add, arith}
-use Rattle.std.specs.Option.{option_map}
-use Rattle.std.proofs.lemmas.Bool.{eqb-true, eqb-false}
+use Rattle.std.proofs.Common.{◌≡◌, ℕ, suc, ◌+◌, ◌*◌, ◌^◌, ◌<◌, ◌≤◌, Bool, true, false, cond, eqb, leb, List, ◌++◌, length, take, drop, Some, None, Option, sym, refl, ap, add-one, arith, rules}
+use Rattle.std.proofs.Math.Seq.{take-add}
+use Rattle.std.proofs.lemmas.Bool.{and_parts, cond_both, eqb-true, eqb-false, leb-true}
 use Rattle.std.proofs.lemmas.List.{length-take-le, length-drop, take_all, take_at}
 use Rattle.stage.specs.Bits.{Bits}
 use Rattle.stage.specs.Meaning.{Meaning, Lawful, word}
@@ -10,26 +10,15 @@ use Rattle.stage.specs.Paired.{word_bits}
 use Rattle.calendar.specs.declared.grant.Grant.{Grant}
 use Rattle.calendar.specs.Grants.{part_bits, output}
 use Rattle.calendar.specs.Rounds.{copies, whole, owed, part_at, first_copy, last_part, seed_at}
-use Rattle.calendar.specs.Courses.{Going, one_on}
-use Rattle.calendar.proofs.Counting.{reads, seed_first, reads_now, reads_next, reads_same, part_below, last_gone}
+use Rattle.calendar.proofs.Counting.{copies_some, count_some, reads, seed_first, reads_now, reads_next, reads_same, part_below, last_gone}
 use Rattle.calendar.proofs.Rounds.{seed_small}
 use Rattle.air.specs.Cells.{Sending, part_of, sent_bits, one_sent}
-use Rattle.air.specs.Terminals.{Awaiting, Hearing, one_heard, finished, reading, block_of}
+use Rattle.air.specs.Terminals.{Awaiting, Hearing, awaited_length, one_heard, reading, hearing, block_of}
 use Rattle.air.proofs.Found.{found_own}
-use Rattle.link.specs.Account.{Note, completes, joins, noted_on}
+use Rattle.link.specs.Account.{Note, joins, noted_on}
 use Rattle.link.specs.Following.{handed_at}
+use Rattle.link.proofs.Passing.{Admitted}
 use Rattle.link.proofs.Ticking.{ticked_after, completing}
-
--- ---- lists
-
-pub take_join : (a b : ℕ) (w : List ℕ) → take a w ++ take b (drop a w) ≡ take (a + b) w
-take_join zero b w = ap (λ (n : ℕ). take n w) (sym (zero-add b))
-take_join (suc a) b [] = nothing b ∙ sym (nothing (suc a + b))
-  where
-    nothing : (n : ℕ) → ◌≡◌ {A = List ℕ} (take n []) []
-    nothing zero = refl
-    nothing (suc n) = refl
-take_join (suc a) b (x ∷ w) = ap (λ us. x ∷ us) (take_join a b w) ∙ ap (λ (n : ℕ). take n (x ∷ w)) (sym (suc-add a b))
 
 part_is : (n p : ℕ) (w : List ℕ) → Bits (part_bits * n) w → p < n → Bits part_bits (part_of p w)
 part_is n p w h low =
@@ -40,12 +29,7 @@ part_is n p w h low =
 
 -- an accepted grant that is not over
 pub record Lasts (m : Meaning) (s : Sending) : Type 0 where
-  pub few : 0 < copies s.going.grant
-  pub some : 0 < s.going.grant.subframes
-  pub called : s.going.grant.rnti ≤ 65535
-  pub long : s.going.grant.length ≤ 2536
-  pub size : m.size s.going.grant.length (output s.going.grant) ≡ output s.going.grant
-  pub bits : Bits s.going.grant.length s.block
+  pub admitted : Admitted m s.going.grant s.block
   pub more : s.going.gone < whole s.going.grant
   pub timed : s.going.start.subframe ≤ 9
 
@@ -76,45 +60,27 @@ noting None = None
 noting (Some s) = Some (note_of s)
 
 -- one subframe on
-abbrev pub going_next : Going → Going
-going_next g = record { grant = g.grant; start = g.start; gone = suc g.gone }
-
-on_next : (g : Going) → one_on g ≡ cond (eqb (owed g.grant g.gone) 0) None (Some (going_next g))
-on_next g =
-    let e : g.gone + 1 ≡ suc g.gone = omega arith in
-    ap (λ (n : ℕ). cond (eqb (owed g.grant g.gone) 0) None (Some (record { grant = g.grant; start = g.start; gone = n }))) e
-
 abbrev pub next : Sending → Sending
-next s = record { going = going_next s.going; block = s.block }
+next s = record {
+  going = record { grant = s.going.grant; start = s.going.start; gone = suc s.going.gone };
+  block = s.block;
+}
 
 pub sent_next : (s : Sending) → one_sent s ≡ cond (eqb (owed s.going.grant s.going.gone) 0) None (Some (next s))
-sent_next s =
-    ap (option_map (λ (g : Going). record { going = g; block = s.block })) (on_next s.going)
-    ∙ elim (eqb (owed s.going.grant s.going.gone) 0) as (λ b.
-    option_map (λ (g : Going). record { going = g; block = s.block }) (cond b None (Some (going_next s.going))) ≡ cond b None (Some (next s)))
-    [ true ↦ refl | false ↦ refl ]
+sent_next s = rw add-one (search rules)
 
 -- what is pending after a subframe is not over
 pub lasts_next : (m : Meaning) (s : Sending) → Lasts m s → eqb (owed s.going.grant s.going.gone) 0 ≡ false → Lasts m (next s)
 lasts_next m s lasts e =
     record {
-      few = lasts.few;
-      some = lasts.some;
-      called = lasts.called;
-      long = lasts.long;
-      size = lasts.size;
-      bits = lasts.bits;
+      admitted = lasts.admitted;
       more = (let ne = eqb-false (owed s.going.grant s.going.gone) 0 e in omega (arith, lasts.more));
       timed = lasts.timed;
     }
 
 -- the account strikes a grant out where the cell ends it
 pub noted_next : (m : Meaning) (s : Sending) → Lasts m s → noted_on (note_of s) ≡ noting (one_sent s)
-noted_next m s lasts =
-    ap (λ b. cond b None (Some (note_of (next s)))) (sym (last_gone s.going.grant s.going.gone lasts.more))
-    ∙ elim (eqb (owed s.going.grant s.going.gone) 0) as (λ b. cond b None (Some (note_of (next s))) ≡ noting (cond b None (Some (next s))))
-    [ true ↦ refl | false ↦ refl ]
-    ∙ ap noting (sym (sent_next s))
+noted_next m s lasts = rw (sent_next s, ← last_gone s.going.grant s.going.gone lasts.more) (search rules)
 
 module _ (identity : ℕ) (small : identity ≤ 503) (m : Meaning) (law : Lawful m) (s : Sending) (lasts : Lasts m s) where
   abbrev g : Grant
@@ -126,32 +92,32 @@ module _ (identity : ℕ) (small : identity ≤ 503) (m : Meaning) (law : Lawful
   abbrev w : List ℕ
   w = word_at identity m s 0
 
+  few : 0 < copies g
+  few = copies_some g lasts.admitted.allowed.repeated
+
+  some : 0 < g.subframes
+  some = count_some g lasts.admitted.allowed.counted
+
   pub sized : 0 < m.size g.length (output g)
-  sized = omega (arith, lasts.size, lasts.some)
+  sized = omega (arith, lasts.admitted.size, some)
 
   pub seeded : (k : ℕ) → seed_at identity g s.going.start k < 2 ^ 31
-  seeded k = seed_small identity g s.going.start k small lasts.called (let t = lasts.timed in omega arith)
+  seeded k =
+      seed_small identity g s.going.start k small
+      (leb-true g.rnti 65535 (and_parts (leb 1 g.rnti) (leb g.rnti 65535) lasts.admitted.allowed.called).1) (omega (arith, lasts.timed))
 
   word_is : (k : ℕ) → Bits (part_bits * g.subframes) (word_at identity m s k)
-  word_is k =
-      let b = word_bits law g.length (output g) (seed_at identity g s.going.start k) sized (seeded k) s.block lasts.bits in
-      (b.0 ∙ lasts.size, b.1)
+  word_is k = rw lasts.admitted.size at (word_bits law g.length (output g) (seed_at identity g s.going.start k) sized (seeded k) s.block lasts.admitted.bits)
 
   pub sent_is : Bits part_bits (sent_bits identity m s)
-  sent_is = part_is g.subframes (part_at g k) (word_at identity m s k) (word_is k) (part_below g k lasts.few lasts.some)
-
-  same_word : first_copy g k ≡ true → word_at identity m s k ≡ w
-  same_word h = ap (λ (x : ℕ). word m g.length (output g) x s.block) (seed_first identity g s.going.start k h)
+  sent_is = part_is g.subframes (part_at g k) (word_at identity m s k) (word_is k) (part_below g k few some)
 
   -- one part more
   read_more : first_copy g k ≡ true → take (part_bits * reads g k) w ++ sent_bits identity m s ≡ take (part_bits * reads g (suc k)) w
   read_more h =
-      ap₂ (λ (p : ℕ) (v : List ℕ). take (320 * p) w ++ part_of (part_at g k) v) (reads_now g k h) (same_word h)
-      ∙ take_join (320 * part_at g k) 320 w
-      ∙ ap (λ (n : ℕ). take n w)
-      (let e = reads_next g k h in
-      let f : 320 * part_at g k + 320 ≡ 320 * suc (part_at g k) = omega arith in
-      f ∙ ap (λ (p : ℕ). 320 * p) (sym e))
+      let here = reads_now g k h in
+      let there : 320 * reads g (suc k) ≡ 320 * part_at g k + 320 = omega (arith, reads_next g k h) in
+      rw (here, there, seed_first identity g s.going.start k h) (sym (take-add (320 * part_at g k) 320 w))
 
   -- the last part: the word is whole
   read_all : first_copy g k ≡ true → last_part g k ≡ true → take (part_bits * reads g (suc k)) w ≡ w
@@ -162,53 +128,50 @@ module _ (identity : ℕ) (small : identity ≤ 503) (m : Meaning) (law : Lawful
   module _ (cov : m.covers g.length (output g) ≡ true) where
     awaited_next : (read : List ℕ) → read ≡ take (part_bits * reads g (suc k)) w
         → one_heard (mirror identity m s) read ≡ awaiting identity m (one_sent s)
-    awaited_next read e =
-        ap (option_map (λ (x : Going). record { going = x; read = read })) (on_next s.going)
-        ∙ elim (eqb (owed g k) 0) as (λ b.
-        option_map (λ (x : Going). record { going = x; read = read }) (cond b None (Some (going_next s.going)))
-        ≡ awaiting identity m (cond b None (Some (next s)))) [
-          | true ↦ refl
-          | false ↦ ap (λ r. Some (record { going = going_next s.going; read = r })) e
-              ∙ ap (λ b. cond b (Some (mirror identity m (next s))) None) (sym cov)
-        ]
-        ∙ ap (awaiting identity m) (sym (sent_next s))
+    awaited_next read e = go (eqb (owed g k) 0) refl
+      where
+        go : (b : Bool) → eqb (owed g k) 0 ≡ b → one_heard (mirror identity m s) read ≡ awaiting identity m (one_sent s)
+        go true h = rw h
+        go false h = rw (h, cov, e, add-one)
 
-    -- how a hearing has to come out
-    pub record Right (h : Hearing) (joined : Bool) : Type 0 where
-      pub awaited_is : h.awaited ≡ awaiting identity m (one_sent s)
-      pub handed_is : handed_at g.length h.outcome h.buffer ≡ cond joined (s.block ∷ []) []
+    -- the word that is read whole has the block
+    found : first_copy g k ≡ true → last_part g k ≡ true
+        → block_of m g.length (output g) (seed_at identity g s.going.start k) (take (part_bits * reads g k) w ++ sent_bits identity m s) ≡ Some s.block
+    found e l =
+        rw (read_more e, read_all e l, seed_first identity g s.going.start k e)
+        (found_own law g.length (output g) (seed_at identity g s.going.start 0) sized (seeded 0) cov s.block lasts.admitted.bits)
 
-    done : (buffer : List ℕ) (o : Option (List ℕ)) → o ≡ Some s.block → (read : List ℕ) → read ≡ take (part_bits * reads g (suc k)) w
-        → Right (finished (mirror identity m s) read buffer o) true
-    done buffer o e read r =
-        subst (λ o. Right (finished (mirror identity m s) read buffer o) true) (sym e)
-        (record {
-          awaited_is = awaited_next read r;
-          handed_is = ap (λ b. b ∷ []) (take_at s.block (drop g.length buffer) g.length lasts.bits.0);
-        })
+  -- how a hearing has to come out, at a block of n bits
+  pub record Right (n : ℕ) (h : Hearing) : Type 0 where
+    pub awaited_is : h.awaited ≡ awaiting identity m (one_sent s)
+    pub handed_is : handed_at n h.outcome h.buffer ≡ joins m (note_of s)
 
-    pub right : (buffer : List ℕ) (first last : Bool) → first_copy g k ≡ first → last_part g k ≡ last
-        → Right (reading identity m (mirror identity m s) (sent_bits identity m s) buffer first last) (first && last)
-    right buffer false last e l = record {
-      awaited_is = awaited_next _ (ap (λ (p : ℕ). take (320 * p) w) (sym (reads_same g k e)));
-      handed_is = refl;
-    }
-    right buffer true false e l = record { awaited_is = awaited_next _ (read_more e); handed_is = refl }
-    right buffer true true e l =
-        done buffer _
-        (ap₂ (λ (x : ℕ) (v : List ℕ). block_of m g.length (output g) x v) (seed_first identity g s.going.start k e)
-        (read_more e ∙ read_all e l)
-        ∙ found_own law g.length (output g) (seed_at identity g s.going.start 0) sized (seeded 0) cov s.block lasts.bits)
-        _ (read_more e)
+  right : m.covers g.length (output g) ≡ true → (buffer : List ℕ) (first last : Bool) → first_copy g k ≡ first → last_part g k ≡ last
+      → Right g.length (reading identity m (mirror identity m s) (sent_bits identity m s) buffer first last)
+  right cov buffer false last e l = record {
+    awaited_is = awaited_next cov _ (ap (λ (p : ℕ). take (320 * p) w) (sym (reads_same g k e)));
+    handed_is = rw (cov, completing g k few some, e);
+  }
+  right cov buffer true false e l = record {
+    awaited_is = awaited_next cov _ (read_more e);
+    handed_is = rw (cov, completing g k few some, e, l);
+  }
+  right cov buffer true true e l =
+      rw (found cov e l)
+      (record {
+        awaited_is = awaited_next cov _ (read_more e);
+        handed_is = rw (cov, completing g k few some, e, l, take_at s.block (drop g.length buffer) g.length lasts.admitted.bits.0);
+      })
 
-    pub joins_is : joins m (note_of s) ≡ cond (first_copy g k && last_part g k) (s.block ∷ []) []
-    joins_is = ap₂ (λ a b. cond (a && b) (s.block ∷ []) []) cov (completing g k lasts.few lasts.some)
-
-  pub uncovered_next : m.covers g.length (output g) ≡ false → awaiting identity m (one_sent s) ≡ None
-  uncovered_next cov =
-      ap (awaiting identity m) (sent_next s)
-      ∙ elim (eqb (owed g k) 0) as (λ b. awaiting identity m (cond b None (Some (next s))) ≡ None)
-      [ true ↦ refl | false ↦ ap (λ b. cond b (Some (mirror identity m (next s))) None) cov ]
-
-  pub uncovered_joins : m.covers g.length (output g) ≡ false → joins m (note_of s) ≡ []
-  uncovered_joins cov = ap (λ a. cond (a && completes (note_of s)) (s.block ∷ []) []) cov
+  pub heard_right : (buffer : List ℕ)
+      → Right (awaited_length (awaiting identity m (Some s))) (hearing identity m false (awaiting identity m (Some s)) (sent_bits identity m s) buffer)
+  heard_right buffer = go (m.covers g.length (output g)) refl
+    where
+      go : (v : Bool) → m.covers g.length (output g) ≡ v
+          → Right (awaited_length (awaiting identity m (Some s))) (hearing identity m false (awaiting identity m (Some s)) (sent_bits identity m s) buffer)
+      go true cov = rw cov (right cov buffer _ _ refl refl)
+      go false cov = rw cov (record {
+        awaited_is = rw (sent_next s)
+            (cond_both (eqb (owed g k) 0) None (Some (next s)) (λ p. None ≡ awaiting identity m p) (λ _. refl) (λ _. rw cov));
+        handed_is = rw cov;
+      })

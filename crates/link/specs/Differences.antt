@@ -1,5 +1,5 @@
 -- What two cells air under one grant differs as the image of their blocks' difference. Assumes nothing.
-use Rattle.std.specs.Prelude.{◌≡◌, ℕ, suc, ◌≤◌, cond, List, [], ◌∷◌, ◌++◌, length, take, is_some, Some, None}
+use Rattle.std.specs.Prelude.{◌≡◌, ℕ, suc, cond, List, [], ◌∷◌, ◌++◌, length, take, is_some, Some, None}
 use Rattle.stage.specs.Bits.{xor}
 use Rattle.stage.specs.Meaning.{Meaning, Lawful, word}
 use Rattle.point.specs.Kinds.{Kind}
@@ -10,14 +10,10 @@ use Rattle.calendar.specs.Grants.{output}
 use Rattle.calendar.specs.Rounds.{part_at, seed_at}
 use Rattle.calendar.specs.Times.{open_at}
 use Rattle.air.specs.declared.answers.Airing.TheVariants.{Closed, Idle, Data}
-use Rattle.air.specs.Ends.{End}
+use Rattle.air.specs.Ends.{End, InRange}
 use Rattle.air.specs.Refusals.{settled, offer_refusal, subframe_refusal}
 use Rattle.air.specs.Cells.{CellState, Written, airs, offered, part_of}
 use Rattle.link.specs.Calls.{Call, offer, subframe, withdraw, called}
-
--- an identity and a time that an end may be parked with
-abbrev pub InRange : End → Type 0
-InRange e = (e.identity ≤ 503) × (e.time.frame ≤ 1023) × (e.time.subframe ≤ 9)
 
 -- a data subframe: when it was, and its grid
 pub record Aired (X : Type 0) : Type 0 where

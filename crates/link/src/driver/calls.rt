@@ -1,4 +1,4 @@
-ghost use Rattle.std.specs.Prelude.{◌≡◌, false, [], length, is_some, is_ok};
+ghost use Rattle.std.specs.Prelude.{◌≡◌, [], length, is_some, OnErr};
 ghost use Rattle.std.specs.Result.{result_err};
 ghost use Rattle.stage.specs.Bits.{zeros};
 ghost use Rattle.calendar.specs.Grants.{output};
@@ -32,7 +32,7 @@ impl<S: Stage, P: Point> Link<S, P> {
         ensures block { self.new.block ≡ self.old.block }
         ensures work { work.new ≡ settled (result_err result) work.old (zeros (length work.old)) }
         ensures side { side.new ≡ settled (result_err result) side.old (zeros (length side.old)) }
-        ensures untouched { is_ok result ≡ false → self.new ≡ self.old }
+        ensures untouched { OnErr result (self.new ≡ self.old) }
     {
         self.cell.offer(grant, work, side)?;
         let covered = self.cell.is_covered();
@@ -43,6 +43,7 @@ impl<S: Stage, P: Point> Link<S, P> {
     }
 
     // One subframe of the cell, which the terminal hears as written; a block goes to the sink. Tests 4 and 17.
+    #[tactic(auto, using(crate::proofs::Driving::long_zeros))]
     pub fn subframe<K: Sink>(
         &mut self,
         grid: &mut [P],
@@ -59,7 +60,7 @@ impl<S: Stage, P: Point> Link<S, P> {
         ensures block { self.new.block ≡ settled (result_err result) self.old.block (block_heard P.Point.kind (link_of S.Stage.meaning self.old) (heard_in work.old side.old self.old.block)) }
         ensures work { work.new ≡ settled (result_err result) work.old (zeros (length work.old)) }
         ensures side { side.new ≡ settled (result_err result) side.old (zeros (length side.old)) }
-        ensures untouched { is_ok result ≡ false → self.new ≡ self.old }
+        ensures untouched { OnErr result (self.new ≡ self.old) }
     {
         let aired = self.air(grid, work, side)?;
         let heard = self.hear(grid, work, side, sink);
@@ -71,7 +72,7 @@ impl<S: Stage, P: Point> Link<S, P> {
         ensures refusal { result_err result ≡ end_refusal (is_some (link_of S.Stage.meaning self.old).cell.pending) }
         ensures link { link_of S.Stage.meaning self.new ≡ linked_on P.Point.kind (link_of S.Stage.meaning self.old) (heard_in [] [] self.old.block) withdraw }
         ensures block { self.new.block ≡ self.old.block }
-        ensures untouched { is_ok result ≡ false → self.new ≡ self.old }
+        ensures untouched { OnErr result (self.new ≡ self.old) }
     {
         let covered = self.cell.is_covered();
         self.cell.withdraw()?;

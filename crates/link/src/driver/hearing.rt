@@ -1,4 +1,4 @@
-ghost use Rattle.std.specs.Prelude.{◌≡◌, false, length, is_some, is_ok};
+ghost use Rattle.std.specs.Prelude.{◌≡◌, false, length, is_some, OnErr};
 ghost use Rattle.std.specs.Result.{result_err};
 ghost use Rattle.stage.specs.Bits.{zeros};
 ghost use Rattle.air.specs.Cells.{airs, stepped};
@@ -31,7 +31,7 @@ impl<S: Stage, P: Point> Link<S, P> {
         ensures block { self.new.block ≡ self.old.block }
         ensures work { work.new ≡ settled (result_err result) work.old (zeros (length work.old)) }
         ensures side { side.new ≡ settled (result_err result) side.old (zeros (length side.old)) }
-        ensures untouched { is_ok result ≡ false → self.new ≡ self.old }
+        ensures untouched { OnErr result (self.new ≡ self.old) }
     {
         self.cell.subframe(grid, work, side)
     }
@@ -53,12 +53,12 @@ impl<S: Stage, P: Point> Link<S, P> {
         ensures block { self.new.block ≡ settled (result_err result) self.old.block (hears P.Point.kind (link_of S.Stage.meaning self.old).terminal self.old.block grid.now).buffer }
         ensures work { work.new ≡ settled (result_err result) work.old (zeros (length work.old)) }
         ensures side { side.new ≡ settled (result_err result) side.old (zeros (length side.old)) }
-        ensures untouched { is_ok result ≡ false → self.new ≡ self.old }
+        ensures untouched { OnErr result (self.new ≡ self.old) }
     {
         let n = self.terminal.awaited_length();
         let outcome = self.terminal.hear(grid, work, side, &mut self.block)?;
         if outcome == Outcome::Block {
-            sink.take(&self.block[0..n]);
+            sink.take(&self.block[..n]);
         }
         Ok(outcome)
     }
@@ -68,7 +68,7 @@ impl<S: Stage, P: Point> Link<S, P> {
         ensures refusal { result_err result ≡ end_refusal (is_some (link_of S.Stage.meaning self.old).terminal.awaited) }
         ensures link { link_of S.Stage.meaning self.new ≡ record { cell = (link_of S.Stage.meaning self.old).cell; terminal = forgot (link_of S.Stage.meaning self.old).terminal } }
         ensures block { self.new.block ≡ self.old.block }
-        ensures untouched { is_ok result ≡ false → self.new ≡ self.old }
+        ensures untouched { OnErr result (self.new ≡ self.old) }
     {
         self.terminal.forget()
     }
