@@ -1,6 +1,6 @@
 -- The word of an awaited grant, part by part, and what is heard of a subframe. Assumes nothing.
-use Rattle.std.proofs.Common.{◌≡◌, ℕ, ◌+◌, ◌*◌, Bool, true, false, cond, eqb, List, [], ◌++◌, take, drop, Some, None, Option, sym, refl, ap, ◌∙◌, ap₂, subst, add-one, arith}
-use Rattle.std.specs.Option.{ForSome, option_map}
+use Rattle.std.proofs.Common.{◌≡◌, ℕ, ◌+◌, ◌*◌, Bool, true, false, cond, eqb, List, [], ◌++◌, take, drop, Some, None, Option, sym, refl, ap, ◌∙◌, ap₂, add-one, arith}
+use Rattle.std.specs.Option.{option_map}
 use Rattle.std.proofs.lemmas.Bool.{eqb-true}
 use Rattle.stage.specs.Meaning.{Meaning}
 use Rattle.calendar.specs.declared.grant.Grant.{Grant}
@@ -13,10 +13,6 @@ use Rattle.air.specs.declared.answers.Outcome.TheVariants.{Part, Block, Spoiled,
 use Rattle.air.specs.declared.terminal.slot.Slot.TheVariants.{FirstCopy, Repeat}
 use Rattle.air.specs.Terminals.{Awaiting, Hearing, block_of, one_heard, finished, reading, hearing}
 use Rattle.air.specs.TerminalViews.{parts_read, awaiting_of, slot_of}
-
--- one subframe on, the grant is the same
-pub same_grant : (P : Grant → Type 0) (g : Going) → P g.grant → ForSome (one_on g) (λ h. P h.grant)
-same_grant P g p h e = let k : g.grant ≡ h.grant = grind arith in subst P k p
 
 -- of a grant that was just begun nothing is read
 pub begins : (table : List ℕ) (g : Grant) (t : Time) → awaiting_of table (begun g t) ≡ record { going = begun g t; read = [] }

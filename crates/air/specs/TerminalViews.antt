@@ -10,8 +10,9 @@ use Rattle.calendar.specs.Courses.{Going}
 use Rattle.air.specs.declared.terminal.Terminal.{Terminal}
 use Rattle.air.specs.declared.terminal.slot.Slot.{Slot}
 use Rattle.air.specs.declared.terminal.slot.Slot.TheVariants.{Closed, Idle, FirstCopy, Repeat}
+use Rattle.air.specs.declared.answers.Outcome.{Outcome}
 use Rattle.air.specs.Ends.{End}
-use Rattle.air.specs.Terminals.{Awaiting, TerminalState, Hearing, hearing}
+use Rattle.air.specs.Terminals.{Awaiting, TerminalState, hearing, with_awaited}
 
 -- how many parts have had their first copy once k open subframes of a grant are gone
 abbrev pub parts_read : Grant → ℕ → ℕ
@@ -50,6 +51,8 @@ is_due Idle = false
 is_due FirstCopy = true
 is_due Repeat = false
 
--- what a terminal makes of the bits that are aired
-abbrev pub takes_in : TerminalState → List ℕ → List ℕ → Hearing
-takes_in t bits buffer = hearing t.identity t.chain (closed t.time) t.awaited bits buffer
+-- what a terminal makes of the bits that are aired: the outcome, the block buffer, and the terminal then
+abbrev pub takes_in : TerminalState → List ℕ → List ℕ → Outcome × List ℕ × TerminalState
+takes_in t bits buffer =
+    let h = hearing t.identity t.chain (closed t.time) t.awaited bits buffer in
+    (h.outcome, h.buffer, with_awaited t h.awaited)

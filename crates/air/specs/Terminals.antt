@@ -1,6 +1,8 @@
 -- What a terminal on air is, and what its calls answer and leave. Assumes nothing.
-use Rattle.std.specs.Prelude.{ℕ, zero, suc, Bool, true, false, cond, not, ◌&&◌, List, [], ◌∷◌, ◌++◌, map, length, drop, is_some, Some, None, Option, ◌==◌, nat_lt}
+use Rattle.std.specs.Prelude.{ℕ, zero, suc, Bool, true, false, not, ◌&&◌, List, [], ◌∷◌, ◌++◌, map, length, drop, is_some, Some, None, Option, ◌==◌, nat_lt}
+use Rattle.std.specs.List.{find}
 use Rattle.std.specs.Option.{unwrap_or, option_map}
+use Rattle.std.specs.Str.{bytes_eq}
 use Rattle.stage.specs.Meaning.{Meaning, word}
 use Rattle.stage.specs.Refusals.{first_fault, short}
 use Rattle.point.specs.Kinds.{Kind}
@@ -29,24 +31,14 @@ pub record TerminalState : Type 0 where
 
 -- ---- the block that has a word
 
-abbrev pub same : List ℕ → List ℕ → Bool
-same [] [] = true
-same [] (y ∷ ys) = false
-same (x ∷ xs) [] = false
-same (x ∷ xs) (y ∷ ys) = x == y && same xs ys
-
 -- all blocks of n bits
 unfoldable pub blocks : ℕ → List (List ℕ)
 blocks zero = [] ∷ []
 blocks (suc n) = map (λ b. 0 ∷ b) (blocks n) ++ map (λ b. 1 ∷ b) (blocks n)
 
-abbrev pub first_with : (List ℕ → Bool) → List (List ℕ) → Option (List ℕ)
-first_with p [] = None
-first_with p (b ∷ bs) = cond (p b) (Some b) (first_with p bs)
-
 -- the block of n bits whose word is w, if there is one
 unfoldable pub block_of : Meaning → (n e seed : ℕ) → List ℕ → Option (List ℕ)
-block_of m n e seed w = first_with (λ b. same (word m n e seed b) w) (blocks n)
+block_of m n e seed w = find (λ b. bytes_eq (word m n e seed b) w) (blocks n)
 
 -- ---- expect
 

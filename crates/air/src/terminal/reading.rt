@@ -6,7 +6,7 @@ ghost use Rattle.calendar.specs.Grants.{output};
 ghost use Rattle.calendar.specs.Rounds.{seed_at};
 ghost use Rattle.calendar.specs.Times.{closed};
 ghost use Rattle.air.specs.declared.terminal.slot.Slot.TheVariants.{FirstCopy};
-ghost use Rattle.air.specs.Terminals.{with_awaited, block_of, short_block};
+ghost use Rattle.air.specs.Terminals.{block_of, short_block};
 ghost use Rattle.air.specs.TerminalViews.{terminal_of, slot_of, takes_in};
 
 use crate::answers::Outcome;
@@ -42,9 +42,7 @@ impl<S: Stage, P: Point> Terminal<S, P> {
         requires bits { length bits.now ≡ 320 }
         requires roomy { short work.old side.old ≡ false }
         requires room { short_block (terminal_of S.Stage.meaning self.old).awaited block.old ≡ false }
-        ensures outcome { result ≡ (takes_in (terminal_of S.Stage.meaning self.old) bits.now block.old).outcome }
-        ensures block { block.new ≡ (takes_in (terminal_of S.Stage.meaning self.old) bits.now block.old).buffer }
-        ensures terminal { terminal_of S.Stage.meaning self.new ≡ with_awaited (terminal_of S.Stage.meaning self.old) (takes_in (terminal_of S.Stage.meaning self.old) bits.now block.old).awaited }
+        ensures { (result, block.new, terminal_of S.Stage.meaning self.new) ≡ takes_in (terminal_of S.Stage.meaning self.old) bits.now block.old }
     {
         match (self.awaited, slot) {
             (_, Slot::Closed) => Outcome::Closed,
@@ -71,9 +69,7 @@ impl<S: Stage, P: Point> Terminal<S, P> {
         requires bits { length bits.now ≡ 320 }
         requires roomy { short work.old side.old ≡ false }
         requires room { course.grant.length ≤ length block.old }
-        ensures outcome { result ≡ (takes_in (terminal_of S.Stage.meaning self.old) bits.now block.old).outcome }
-        ensures block { block.new ≡ (takes_in (terminal_of S.Stage.meaning self.old) bits.now block.old).buffer }
-        ensures terminal { terminal_of S.Stage.meaning self.new ≡ with_awaited (terminal_of S.Stage.meaning self.old) (takes_in (terminal_of S.Stage.meaning self.old) bits.now block.old).awaited }
+        ensures { (result, block.new, terminal_of S.Stage.meaning self.new) ≡ takes_in (terminal_of S.Stage.meaning self.old) bits.now block.old }
     {
         let part = course.part();
         put_part(&mut self.word, PART_BITS * part as usize, bits);
@@ -83,8 +79,8 @@ impl<S: Stage, P: Point> Terminal<S, P> {
         }
         match self.decode(course, work, side) {
             Ok(n) => {
-                copy_front(block, work, n);
                 self.awaited = course.advanced();
+                copy_front(block, work, n);
                 Outcome::Block
             }
             Err(_) => {
