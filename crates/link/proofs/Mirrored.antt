@@ -1,7 +1,7 @@
 -- A terminal that has followed a cell hears its subframe as the account ticks it. Assumes nothing.
-use Rattle.std.proofs.Common.{◌≡◌, ℕ, suc, ◌+◌, ◌*◌, ◌^◌, ◌<◌, ◌≤◌, Bool, true, false, cond, eqb, leb, List, ◌++◌, length, take, drop, Some, None, Option, sym, refl, ap, add-one, arith, rules}
+use Rattle.std.proofs.Common.{◌≡◌, ℕ, suc, ◌+◌, ◌*◌, ◌^◌, ◌<◌, ◌≤◌, Bool, true, false, cond, eqb, leb, List, ◌++◌, length, take, drop, Some, None, Option, sym, refl, ap, ⊎_elim, add-one, arith, rules}
 use Rattle.std.proofs.Math.Seq.{take-add}
-use Rattle.std.proofs.lemmas.Bool.{and_parts, cond_both, eqb-true, eqb-false, leb-true}
+use Rattle.std.proofs.lemmas.Bool.{and_parts, cases_Bool, cond_both, eqb-true, eqb-false, leb-true}
 use Rattle.std.proofs.lemmas.List.{length-take-le, length-drop, take_all, take_at}
 use Rattle.stage.specs.Bits.{Bits}
 use Rattle.stage.specs.Meaning.{Meaning, Lawful, word}
@@ -128,11 +128,8 @@ module _ (identity : ℕ) (small : identity ≤ 503) (m : Meaning) (law : Lawful
   module _ (cov : m.covers g.length (output g) ≡ true) where
     awaited_next : (read : List ℕ) → read ≡ take (part_bits * reads g (suc k)) w
         → one_heard (mirror identity m s) read ≡ awaiting identity m (one_sent s)
-    awaited_next read e = go (eqb (owed g k) 0) refl
-      where
-        go : (b : Bool) → eqb (owed g k) 0 ≡ b → one_heard (mirror identity m s) read ≡ awaiting identity m (one_sent s)
-        go true h = rw h
-        go false h = rw (h, cov, e, add-one)
+    awaited_next read e =
+        ⊎_elim (λ h. rw h) (λ (h : eqb (owed g k) 0 ≡ false). rw (h, cov, e, add-one)) (cases_Bool (eqb (owed g k) 0))
 
     -- the word that is read whole has the block
     found : first_copy g k ≡ true → last_part g k ≡ true
@@ -165,13 +162,11 @@ module _ (identity : ℕ) (small : identity ≤ 503) (m : Meaning) (law : Lawful
 
   pub heard_right : (buffer : List ℕ)
       → Right (awaited_length (awaiting identity m (Some s))) (hearing identity m false (awaiting identity m (Some s)) (sent_bits identity m s) buffer)
-  heard_right buffer = go (m.covers g.length (output g)) refl
-    where
-      go : (v : Bool) → m.covers g.length (output g) ≡ v
-          → Right (awaited_length (awaiting identity m (Some s))) (hearing identity m false (awaiting identity m (Some s)) (sent_bits identity m s) buffer)
-      go true cov = rw cov (right cov buffer _ _ refl refl)
-      go false cov = rw cov (record {
+  heard_right buffer =
+      ⊎_elim (λ cov. rw cov (right cov buffer _ _ refl refl))
+      (λ cov. rw cov (record {
         awaited_is = rw (sent_next s)
             (cond_both (eqb (owed g k) 0) None (Some (next s)) (λ p. None ≡ awaiting identity m p) (λ _. refl) (λ _. rw cov));
         handed_is = rw cov;
-      })
+      }))
+      (cases_Bool (m.covers g.length (output g)))
