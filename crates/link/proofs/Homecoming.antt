@@ -21,7 +21,7 @@ use Rattle.air.specs.Ends.{End, InRange}
 use Rattle.air.specs.Refusals.{settled, offer_refusal, end_refusal}
 use Rattle.air.specs.Cells.{CellState, Sending, written, offered, with_pending, sent_bits, is_covered}
 use Rattle.air.specs.Terminals.{TerminalState, Awaiting, Hearing, awaited_length, short_block, due, hear_refusal, hearing}
-use Rattle.link.specs.Calls.{Call, offer, subframe, withdraw, refusal, turned_down, accepting, called}
+use Rattle.link.specs.Calls.{Call, offer, subframe, withdraw, turned_down, accepting, called}
 use Rattle.link.specs.Account.{Account, ticking, booking, booked, opened}
 use Rattle.link.specs.Following.{LinkState, Buffers, on_air, told, forgot, handed_at, following, followed, linked_on, handed_on, Serves}
 use Rattle.link.specs.Home.{Run, handed_over, Served, accounted, BlocksComeHome}
@@ -197,9 +197,7 @@ module _ {X : Type 0} (K : Kind X) (kind : LawfulKind K) where
   step : (c : CellState) (blocks : List (List ℕ)) (b : Buffers) (x : Call X) → Sound c → Serves (tied_link c) b x
       → Tied (called K c x) blocks (followed K (tied_link c) b x) (booked (account_of c blocks) x)
   step c blocks b x sound serves =
-      subst (λ v. Tied (called K c x) blocks (followed K (tied_link c) b x)
-      (settled (refusal c.chain v x) (account_of c blocks) (booking (account_of c blocks) x)))
-      (sym (busy_noted c.pending))
+      rw (busy_noted c.pending)
       (settle (turned_down c x) c (accepting K c x) blocks (following K (tied_link c) b x) (booking (account_of c blocks) x) sound
       (accepted_call c blocks b x sound serves))
 
