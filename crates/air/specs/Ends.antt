@@ -14,10 +14,6 @@ pub record InRange (e : End) : Type 0 where
   pub framed : e.time.frame ≤ 1023
   pub timed : e.time.subframe ≤ 9
 
--- what a parked end stands for is itself
-abbrev pub end_of : End → End
-end_of e = e
-
 -- a new end has identity, frame and subframe 0
 abbrev pub fresh : End
 fresh = record { identity = 0; time = record { frame = 0; subframe = 0 } }

@@ -4,7 +4,7 @@ ghost use Rattle.stage.specs.Refusals.{first_fault, short};
 ghost use Rattle.air.specs.declared.fault.EndFault.TheVariants.{ShortBuffer, Pending, WordLength, GridSize};
 
 use crate::fault::EndFault;
-use stage::setting::MOST_BITS;
+use stage::admission::is_short;
 
 // The points of a grid.
 const GRID_POINTS: usize = 168;
@@ -13,7 +13,7 @@ const GRID_POINTS: usize = 168;
 pub(crate) fn check_buffers(work: &[u8], side: &[u8]) -> Result<(), EndFault>
     ensures { result_err result ≡ first_fault ((short work.now side.now, ShortBuffer) ∷ []) }
 {
-    if work.len() < MOST_BITS || side.len() < MOST_BITS {
+    if is_short(work, side) {
         return Err(EndFault::ShortBuffer);
     }
     Ok(())

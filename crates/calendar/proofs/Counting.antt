@@ -1,8 +1,9 @@
 -- The subframes of a grant, counted. Assumes nothing.
 use Rattle.std.proofs.Common.{◌≡◌, ℕ, suc, ◌+◌, ◌-◌, ◌*◌, ◌/◌, ◌%◌, ◌<◌, ◌≤◌, min, Bool, true, false, ◌&&◌, eqb, ltb, leb, ◌⊎◌, List, [], ◌∷◌, sym, refl, ap, ◌∙◌, inl, inr, ⊎_elim, mod-eq_of_lt, mul-pos, arith}
-use Rattle.std.proofs.Math.Nat.{div-eq_of_lt, div-zero, eq-zero-or-pos, add-div_right, suc-mul}
+use Rattle.std.proofs.Math.Nat.{div-eq_of_lt, div-zero, eq-zero-or-pos, pos_of_ne-zero, add-div_right, suc-mul}
 use Rattle.std.proofs.lemmas.Nat.{div-mul-add, div-add-mod', le-div, mod_below, div_below}
-use Rattle.std.proofs.lemmas.Bool.{and_parts, and_cases, or_cases, both_ways, leb-true, ltb-true, ltb-false, eqb-true, eqb-false, eq-eqb, ne_eqb, cases_eq}
+use Rattle.std.proofs.lemmas.Bool.{and_parts, and_cases, or_cases, both_ways, leb-true, ltb-true, ltb-false, eqb-true, eqb-false}
+use Rattle.std.proofs.lemmas.Bool.Decides.{nat_tests}
 use Rattle.calendar.specs.declared.grant.Grant.{Grant}
 use Rattle.calendar.specs.declared.time.Time.{Time}
 use Rattle.calendar.specs.Grants.{member, counts, repetition_counts, count_allowed, repetitions_allowed}
@@ -45,17 +46,12 @@ part_below g k r n = div_below (k % round g) (copies g) g.subframes r (mod_below
 
 -- the last subframe, by what is owed and by what is gone
 pub last_gone : (g : Grant) (k : ℕ) → k < whole g → eqb (owed g k) 0 ≡ eqb (suc k) (whole g)
-last_gone g k h =
-    ⊎_elim (λ e. eq-eqb (owed g k) 0 (omega arith) ∙ sym (eq-eqb (suc k) (whole g) e))
-    (λ ne. ne_eqb (owed g k) 0 (λ e. ne (omega arith)) ∙ sym (ne_eqb (suc k) (whole g) ne))
-    (cases_eq (suc k) (whole g))
+last_gone g k h = grind (arith, nat_tests)
 
 -- a part's first copy stands in the first round
 pub first_is : (g : Grant) (k : ℕ) → first_copy g k ≡ true → (k < round g) × (k % copies g ≡ 0)
 unfolding first_copy
-first_is g k h =
-    let t = and_parts (ltb k (round g)) (eqb (k % copies g) 0) h in
-    (ltb-true k (round g) t.0, eqb-true (k % copies g) 0 t.1)
+first_is g k h = (grind (arith, nat_tests), grind (arith, nat_tests))
 
 pub part_first : (g : Grant) (k : ℕ) → k < round g → part_at g k ≡ k / copies g
 unfolding part_at
@@ -125,6 +121,7 @@ pub reads_same : (g : Grant) (k : ℕ) → first_copy g k ≡ false → reads g 
 unfolding first_copy
 reads_same g k h =
     ⊎_elim (λ e. omega (arith, div-zero (suc k + (copies g - 1)), div-zero (k + (copies g - 1))))
-    (λ some. up_same k (copies g) some g.subframes (⊎_elim (λ e. inl (ltb-false k (round g) e))
-    (λ e. let ne = eqb-false (k % copies g) 0 e in inr (omega arith)) (and_cases (ltb k (round g)) (eqb (k % copies g) 0) h)))
+    (λ some. up_same k (copies g) some g.subframes
+    (⊎_elim (λ e. inl (ltb-false k (round g) e)) (λ e. inr (pos_of_ne-zero (eqb-false (k % copies g) 0 e)))
+    (and_cases (ltb k (round g)) (eqb (k % copies g) 0) h)))
     (eq-zero-or-pos (copies g))

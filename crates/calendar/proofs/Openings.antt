@@ -1,6 +1,6 @@
 -- Open subframes, counted one by one. Assumes nothing.
-use Rattle.std.proofs.Common.{◌≡◌, ℕ, zero, suc, ◌+◌, ◌<◌, ◌≤◌, Bool, true, false, cond, sym, refl, ap, ◌∙◌, subst, ⊎_elim, add-one, arith}
-use Rattle.std.proofs.lemmas.Bool.{cond-false, cond-true, cond_both, cases_Bool, cases_order, cases_eq}
+use Rattle.std.proofs.Common.{◌≡◌, ℕ, zero, suc, ◌+◌, ◌<◌, ◌≤◌, Bool, true, false, sym, refl, ap, ◌∙◌, subst, ⊎_elim, add-one, arith}
+use Rattle.std.proofs.lemmas.Bool.{cond-false, cond-true, cases_Bool, cases_order, cases_eq}
 use Rattle.std.proofs.lemmas.Bool.Decides.{nat_tests}
 use Rattle.calendar.specs.declared.time.Time.{Time}
 use Rattle.calendar.specs.Calendar.{later, open_among, NthOpen}
@@ -21,11 +21,7 @@ open_third t h k = cond-true (closed t) _ t h ∙ cond-true (closed (after t)) (
 
 -- a closed subframe is passed over
 pub next_past : (t : Time) → closed t ≡ true → next_open (after t) ≡ next_open t
-next_past t h = go (closed (after t)) refl
-  where
-    go : (b : Bool) → closed (after t) ≡ b → next_open (after t) ≡ next_open t
-    go true e = open_second (after t) e (third_open t h e) ∙ sym (open_third t h e)
-    go false e = open_here (after t) e ∙ sym (open_second t h e)
+next_past t h = grind (arith, nat_tests)
 
 pub opens_first : (start : Time) → open_at start 0 ≡ next_open start
 unfolding open_at
@@ -35,22 +31,13 @@ pub opens_next : (start : Time) (k : ℕ) → open_at start (k + 1) ≡ next_ope
 unfolding open_at
 opens_next start k = ap (open_at start) (add-one k)
 
--- a step from open subframe number k, and on to the next open one
-pub opens_after : (start t u v : Time) (k : ℕ) → t ≡ open_at start k → u ≡ after t → v ≡ next_open u → v ≡ open_at start (k + 1)
-opens_after start t u v k e f h =
-    h ∙ ap (λ (x : Time). next_open x) (f ∙ ap (λ (x : Time). after x) e) ∙ sym (opens_next start k)
-
 -- no subframe number grows past what it was, or 9
 module _ (b : ℕ) (nine : 9 ≤ b) where
   pub after_small : (t : Time) → t.subframe ≤ b → (after t).subframe ≤ b
   after_small t h = grind (arith, nat_tests)
 
   next_small : (t : Time) → t.subframe ≤ b → (next_open t).subframe ≤ b
-  next_small t h =
-      cond_both (closed t) (cond (closed (after t)) (after (after t)) (after t)) t (λ x. x.subframe ≤ b)
-      (λ _. cond_both (closed (after t)) (after (after t)) (after t) (λ x. x.subframe ≤ b)
-      (λ _. after_small (after t) (after_small t h)) (λ _. after_small t h))
-      (λ _. h)
+  next_small t h = let u = after_small t h in let v = after_small (after t) u in grind (arith, nat_tests)
 
   pub open_small : (t : Time) (k : ℕ) → t.subframe ≤ b → (open_at t k).subframe ≤ b
   unfolding open_at
@@ -100,15 +87,13 @@ module _ (t : Time) where
 
   -- past an open subframe there are more
   among_more : (j : ℕ) → open_among t j ≤ open_among t (suc j)
-  among_more j =
-      ⊎_elim (λ h. let e = past_closed j h in omega arith) (λ h. let e = past_open j h in omega arith) (cases_Bool (closed (later t j)))
+  among_more j = ⊎_elim (λ h. omega (arith, past_closed j h)) (λ h. omega (arith, past_open j h)) (cases_Bool (closed (later t j)))
 
   among_past : (i j : ℕ) → closed (later t i) ≡ false → i < j → open_among t i < open_among t j
   among_past i zero h l = absurd (omega arith)
   among_past i (suc j) h l =
-      let more = among_more j in
-      ⊎_elim (λ e. let p = past_open i h in subst (λ (x : ℕ). open_among t i < open_among t (suc x)) e (omega arith))
-      (λ ne. let p = among_past i j h (omega arith) in omega arith)
+      ⊎_elim (λ e. let p = ap (open_among t) e in omega (arith, past_open i h, p, ap (λ (k : ℕ). open_among t (suc k)) e))
+      (λ ne. omega (arith, among_more j, among_past i j h (omega arith)))
       (cases_eq i j)
 
   pub nth_only : (k : ℕ) (u v : Time) → NthOpen t k u → NthOpen t k v → u ≡ v

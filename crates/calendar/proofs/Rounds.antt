@@ -1,14 +1,13 @@
 -- A grant's rounds, subframe by subframe. Assumes nothing.
-use Rattle.std.proofs.Common.{◌≡◌, ℕ, ◌+◌, ◌-◌, ◌*◌, ◌/◌, ◌%◌, ◌^◌, ◌<◌, ◌≤◌, min, true, cond, eqb, sym, refl, ap, ◌∙◌, add_assoc, div-add-mod', zero-mul, mul_left_comm, arith}
+use Rattle.std.proofs.Common.{◌≡◌, ℕ, ◌+◌, ◌-◌, ◌*◌, ◌/◌, ◌%◌, ◌^◌, ◌<◌, ◌≤◌, min, true, eqb, sym, refl, ap, ◌∙◌, add_assoc, div-add-mod', zero-mul, mul_left_comm, arith}
 use native.Mathlib.Nat.{div-eq_of_lt}
 use Rattle.std.proofs.lemmas.Nat.{div-mul-add, mod-mul-add, mod_below, mul-add-lt}
-use Rattle.std.proofs.lemmas.Bool.{cond_both, eqb-true, eqb-false}
+use Rattle.std.proofs.lemmas.Bool.{eqb-true}
 use Rattle.calendar.specs.declared.grant.Grant.{Grant}
 use Rattle.calendar.specs.declared.time.Time.{Time}
 use Rattle.calendar.specs.Calendar.{InRounds}
 use Rattle.calendar.specs.Grants.{repetition_counts, repetitions_allowed}
-use Rattle.calendar.specs.Rounds.{copies, round, whole, part_at, round_first, seed_of, seed_at}
-use Rattle.calendar.specs.Times.{open_at}
+use Rattle.calendar.specs.Rounds.{copies, round, whole, part_at, round_first, seed_at}
 use Rattle.calendar.proofs.Counting.{listed}
 use Rattle.calendar.proofs.Openings.{open_small}
 
@@ -31,20 +30,6 @@ round_on g k pos ne =
     let is : (k + 1) / round g * round g + ((k + 1) % round g - 1) ≡ k = omega arith in
     ap (λ (q : ℕ). q * round g)
     (sym (ap (λ (x : ℕ). x / round g) (sym is) ∙ div-mul-add ((k + 1) / round g) (round g) ((k + 1) % round g - 1) (omega arith)))
-
--- the first subframe of the round one subframe on
-pub opening_next : (g : Grant) (start next first : Time) (k : ℕ) → 0 < round g → next ≡ open_at start (k + 1) → first ≡ open_at start (round_first g k)
-    → cond (eqb ((k + 1) % round g) 0) next first ≡ open_at start (round_first g (k + 1))
-opening_next g start next first k pos n f =
-    cond_both (eqb ((k + 1) % round g) 0) next first (λ x. x ≡ open_at start (round_first g (k + 1)))
-    (λ e. n ∙ ap (open_at start) (sym (round_here g (k + 1) (eqb-true _ 0 e))))
-    (λ e. f ∙ ap (open_at start) (sym (round_on g k pos (eqb-false _ 0 e))))
-
--- the seed of a round, from its first subframe
-pub seed_from_first : (identity : ℕ) (g : Grant) (start first : Time) (k : ℕ) → first ≡ open_at start (round_first g k)
-    → seed_of identity g.rnti first ≡ seed_at identity g start k
-unfolding seed_at
-seed_from_first identity g start first k e = ap (seed_of identity g.rnti) e
 
 pub seed_small : (identity : ℕ) (g : Grant) (start : Time) (k : ℕ) → identity ≤ 503 → g.rnti ≤ 65535 → start.subframe ≤ 255
     → seed_at identity g start k < 2 ^ 31

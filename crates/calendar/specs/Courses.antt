@@ -10,9 +10,6 @@ pub record Going : Type 0 where
   pub start : Time
   pub gone : ℕ
 
-abbrev pub going_of : Going → Going
-going_of c = c
-
 abbrev pub begun : Grant → Time → Going
 begun g t = record { grant = g; start = t; gone = 0 }
 

@@ -1,9 +1,8 @@
 -- Bits taken in a ring. Assumes nothing.
 use Rattle.std.specs.Prelude.{◌≡◌, ℕ, ◌+◌, ◌-◌, ◌%◌, ◌<◌, ◌≤◌, ◌≢◌, zero, suc, List, length, take, drop, slice_index, slice_set, refl}
-use Rattle.std.proofs.Common.{sym, ap, ◌∙◌, ⊎_elim, mod-eq_of_lt, arith, get_or-set_same, get_or-set_other, below_more}
-use Rattle.std.proofs.Math.Nat.{mod-le, add-mod_left, add-mod_right}
+use Rattle.std.proofs.Common.{sym, ap, ◌∙◌, subst, mod-eq_of_lt, arith, get_or-set_same, get_or-set_other, below_more}
+use Rattle.std.proofs.Math.Nat.{mod-le, add-mod_right}
 use Rattle.std.proofs.lemmas.List.{ext_get_or, get_or-take, get_or-drop, take_all, length-drop, length-take-le}
-use Rattle.std.proofs.lemmas.Bool.{cases_lt}
 use Rattle.std.proofs.lemmas.List.FromFn.{length-map-range_with_len, get_or-map-range_with_len}
 use Rattle.std.proofs.lemmas.Nat.{mod_below}
 use Rattle.stage.specs.Gather.{gathered, Within, Every}
@@ -53,36 +52,40 @@ ringed_all n xs ys k l end h =
     ext_get_or 0 ys (gathered (ring n (length xs)) xs) (omega arith) (λ j i.
     h j (omega arith) ∙ sym (slice_index_selected n (length xs) xs j (omega arith)))
 
+-- the same bits, looked at
+pub ringed_kept : (n : ℕ) (xs : List ℕ) (k : ℕ) → 0 < n → n ≤ k → slice_index xs k ≡ slice_index xs (k - n) → Ringed n xs k xs → Ringed n xs (k + 1) xs
+ringed_kept n xs k pos low e h =
+    below_more _ k h (e ∙ h (k - n) (omega arith) ∙ ap (λ i. slice_index xs i) (mod_once n k low))
+
+pub ringed_at : (n : ℕ) (xs : List ℕ) (k : ℕ) → 0 < n → n ≤ k → k < length xs → xs ≡ gathered (ring n (length xs)) xs → slice_index xs k ≡ slice_index xs (k - n)
+ringed_at n xs k pos low high e =
+    ap (λ ys. slice_index ys k) e ∙ slice_index_selected n (length xs) xs k high
+    ∙ ap (λ i. slice_index xs i) (sym (mod_once n k low))
+    ∙ sym (ap (λ ys. slice_index ys (k - n)) e ∙ slice_index_selected n (length xs) xs (k - n) (omega arith))
+
 -- a list goes round where it is itself, n places on
 module _ (n : ℕ) (xs : List ℕ) (pos : 0 < n) (low : n ≤ length xs) where
   pub ring_from_shift : take (length xs - n) (drop n xs) ≡ take (length xs - n) xs → xs ≡ gathered (ring n (length xs)) xs
-  ring_from_shift e = ringed_all n xs xs (length xs) refl (omega arith) (λ j h. turned (j + 1) j (omega arith) h)
+  ring_from_shift e = ringed_all n xs xs (n + (length xs - n)) refl (omega arith) (go (length xs - n) (omega arith))
     where
-      back : (k : ℕ) → n ≤ k → k < length xs → slice_index xs k ≡ slice_index xs (k - n)
-      back k p h =
-          let at : n + (k - n) ≡ k = omega arith in
-          ap (λ i. slice_index xs i) (sym at) ∙ sym (get_or-drop n xs (k - n) 0)
-          ∙ sym (get_or-take (length xs - n) (drop n xs) (k - n) 0 (omega arith)) ∙ ap (λ ys. slice_index ys (k - n)) e
-          ∙ get_or-take (length xs - n) xs (k - n) 0 (omega arith)
+      back : (i : ℕ) → n + i < length xs → slice_index xs (n + i) ≡ slice_index xs (n + i - n)
+      back i h =
+          sym (get_or-drop n xs i 0) ∙ sym (get_or-take (length xs - n) (drop n xs) i 0 (omega arith)) ∙ ap (λ ys. slice_index ys i) e
+          ∙ get_or-take (length xs - n) xs i 0 (omega arith) ∙ ap (λ k. slice_index xs k) (omega arith)
 
-      turned : (fuel j : ℕ) → j < fuel → j < length xs → slice_index xs j ≡ slice_index xs (j % n)
-      turned zero j f h = absurd (omega arith)
-      turned (suc fuel) j f h =
-          ⊎_elim
-          (λ first. ap (λ i. slice_index xs i) (sym (mod-eq_of_lt first)))
-          (λ past. back j past h ∙ turned fuel (j - n) (omega arith) (omega arith) ∙ ap (λ i. slice_index xs i) (mod_once n j past))
-          (cases_lt j n)
+      go : (i : ℕ) → n + i ≤ length xs → Ringed n xs (n + i) xs
+      go zero h = subst (λ k. Ringed n xs k xs) (omega arith) (ringed_none n xs)
+      go (suc i) h =
+          subst (λ k. Ringed n xs k xs) (omega arith) (ringed_kept n xs (n + i) pos (omega arith) (back i (omega arith)) (go i (omega arith)))
 
   pub shift_from_ring : xs ≡ gathered (ring n (length xs)) xs → take (length xs - n) (drop n xs) ≡ take (length xs - n) xs
   shift_from_ring e =
       let m = length xs - n in
       let a : length (drop n xs) ≡ m = length-drop n xs in
       let b : length (take m xs) ≡ m = length-take-le m xs (omega arith) in
-      let at : (k : ℕ) → k < length xs → slice_index xs k ≡ slice_index xs (k % n) =
-      λ k h. ap (λ ys. slice_index ys k) e ∙ slice_index_selected n (length xs) xs k h in
       take_all m (drop n xs) (omega arith)
       ∙ ext_get_or 0 (drop n xs) (take m xs) (a ∙ sym b) (λ k h.
-      get_or-drop n xs k 0 ∙ at (n + k) (omega arith) ∙ ap (λ i. slice_index xs i) (add-mod_left n k) ∙ sym (at k (omega arith))
+      get_or-drop n xs k 0 ∙ ringed_at n xs (n + k) pos (omega arith) (omega arith) e ∙ ap (λ i. slice_index xs i) (omega arith)
       ∙ sym (get_or-take m xs k 0 (omega arith)))
 
 -- what is taken in a ring goes round

@@ -22,10 +22,7 @@ impl Stage for Scrambler {
     ghost lawful = { λ _. scrambling_lawful };
 
     fn length(&self, n: usize, s: Setting) -> usize {
-        if n > MOST_BITS || !s.in_range() {
-            return 0;
-        }
-        n
+        if n <= MOST_BITS && s.in_range() { n } else { 0 }
     }
 
     fn covers(&self, n: usize, s: Setting) -> bool {

@@ -20,10 +20,11 @@ impl Stage for Selection {
     ghost lawful = { λ _. selecting_lawful };
 
     fn length(&self, n: usize, s: Setting) -> usize {
-        if n == 0 || n > MOST_BITS || !s.in_range() {
-            return 0;
+        if (1..=MOST_BITS).contains(&n) && s.in_range() {
+            s.output
+        } else {
+            0
         }
-        s.output
     }
 
     fn covers(&self, n: usize, s: Setting) -> bool {

@@ -1,5 +1,6 @@
 -- The register of 24 bits as a number. Assumes nothing.
-use Rattle.std.proofs.Common.{◌≡◌, ℕ, zero, suc, ◌-◌, ◌*◌, ◌/◌, ◌%◌, ◌^◌, ◌<◌, ◌≤◌, ◌≢◌, true, ltb, List, [], ◌∷◌, ◌++◌, map, sym, refl, ap, ◌∙◌, ap₂, mod-eq_of_lt, arith, length-append}
+use Rattle.std.proofs.Common.{◌≡◌, ℕ, zero, suc, ◌-◌, ◌*◌, ◌/◌, ◌%◌, ◌^◌, ◌<◌, ◌≤◌, ◌≢◌, true, ltb, List, [], ◌∷◌, ◌++◌, map, get_or, sym, refl, ap, ◌∙◌, ap₂, mod-eq_of_lt, arith, length-append}
+use Rattle.std.proofs.lemmas.List.FromFn.{get_or-map-range_with_len}
 use Rattle.std.proofs.lemmas.Bool.{and_parts, ltb-true}
 use Rattle.std.proofs.lemmas.List.Folds.{list_all-append}
 use lib.Bits.{bit_and, bit_xor}
@@ -82,3 +83,7 @@ registered_more block x b y step h bits =
 pub to_bits_places : (x : ℕ) → map (λ k. x / 2 ^ (23 - k) % 2) (range_with_len 0 24) ≡ to_bits 24 x
 unfolding to_bits
 to_bits_places x = refl
+
+pub slice_index_to_bits : (x k : ℕ) → k < 24 → get_or (to_bits 24 x) k 0 ≡ x / 2 ^ (23 - k) % 2
+slice_index_to_bits x k h =
+    ap (λ (z : List ℕ). get_or z k 0) (sym (to_bits_places x)) ∙ get_or-map-range_with_len (λ k. x / 2 ^ (23 - k) % 2) 0 24 k k 0 h (omega arith)

@@ -34,10 +34,11 @@ impl Stage for CheckBits {
     ghost lawful = { λ _. checking_lawful };
 
     fn length(&self, n: usize, s: Setting) -> usize {
-        if n == 0 || n > MOST_BITS - CHECK || !s.in_range() {
-            return 0;
+        if (1..=MOST_BITS - CHECK).contains(&n) && s.in_range() {
+            n + CHECK
+        } else {
+            0
         }
-        n + CHECK
     }
 
     fn covers(&self, n: usize, s: Setting) -> bool {

@@ -5,4 +5,5 @@ pub mod Bits
 pub mod Elements
 pub mod Carried
 pub mod Figures
+mod Blanks
 mod Fetched

@@ -14,14 +14,10 @@ use calendar::identity::Identity;
 use point::Point;
 
 // Writes the grid of a closed subframe: blanks only.
-#[tactic(auto, unfolding(crate::specs::Grids::vacant))]
 pub fn write_closed<P: Point>(grid: &mut [P])
     ensures { grid.new ≡ vacant P.Point.kind (length grid.old) }
 {
-    let blank = P::blank();
-    for element in grid.iter_mut() {
-        *element = blank;
-    }
+    grid.fill_with(|| P::blank());
 }
 
 // Writes the grid of an open subframe without data: the reference points, and blanks.

@@ -17,6 +17,7 @@ impl Point for FloatPoint {
 
     ghost lawful = { Prim.search rules };
 
+    #[tactic(auto, using(crate::proofs::Floats::nought))]
     fn blank() -> FloatPoint {
         FloatPoint { i: 0.0, q: 0.0 }
     }
@@ -34,6 +35,7 @@ impl Point for FloatPoint {
 }
 
 // The coordinate of a bit: 0 is positive. 0.70703125 is 1448 / 2048.
+#[tactic(auto, using(crate::proofs::Floats::plus, crate::proofs::Floats::minus))]
 fn side(bit: bool) -> f32
     ensures { result ≡ float_side bit }
 {
@@ -41,6 +43,7 @@ fn side(bit: bool) -> f32
 }
 
 // The bit of a coordinate, if it is one.
+#[tactic(auto, using(crate::proofs::Floats::plus_bit, crate::proofs::Floats::minus_bit, crate::proofs::Floats::no_bit))]
 fn bit(x: f32) -> Option<bool>
     ensures { result ≡ float_bit x }
 {

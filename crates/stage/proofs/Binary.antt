@@ -1,13 +1,9 @@
 -- A list of bits, place by place. Assumes nothing.
-use Rattle.std.proofs.Common.{◌≡◌, ℕ, zero, suc, ◌<◌, Bool, true, false, not, ◌&&◌, ltb, List, [], ◌∷◌, ◌++◌, length, get_or, take, drop, Some, None, sym, refl, ap, arith}
+use Rattle.std.proofs.Common.{◌≡◌, ℕ, zero, suc, ◌<◌, true, ◌&&◌, ltb, List, [], ◌∷◌, ◌++◌, length, get_or, take, drop, refl, ap, arith}
 use Rattle.std.specs.List.{AllByRecursion, list_all}
 use Rattle.std.proofs.lemmas.Bool.{and_parts, and_from, ltb-true, lt-ltb}
-use Rattle.std.proofs.lemmas.List.{get_or-take, length-take}
 use Rattle.std.proofs.ByRecursion.{All-append, All-take, All-drop, All-get_or}
-use Rattle.stage.specs.declared.fault.StageFault.TheVariants.{NotBits}
 use Rattle.stage.specs.Bits.{binary, zeros}
-use Rattle.stage.specs.Refusals.{first_fault}
-use Rattle.stage.proofs.Opened.{passed, stopped}
 
 -- each element below 2, in the words of the standard library
 abbrev pub Small : List ℕ → Type 0

@@ -1,6 +1,7 @@
 -- The tests of a call, one after the other. Assumes nothing.
-use Rattle.std.proofs.Common.{◌≡◌, ℕ, ◌^◌, ◌<◌, ◌≤◌, Bool, true, false, cond, not, ◌&&◌, eqb, ltb, leb, List, [], ◌∷◌, length, take, Some, None, sym, refl, ap, ◌∙◌, arith}
-use Rattle.std.proofs.lemmas.Bool.{ne_eqb, lt-ltb, ltb-false, or_parts, and_parts, ltb-true, not-false, eqb-false}
+use Rattle.std.proofs.Common.{◌≡◌, ℕ, ◌^◌, ◌<◌, ◌≤◌, Bool, true, false, cond, not, eqb, ltb, List, [], ◌∷◌, length, take, Some, None, sym, refl, ap, ◌∙◌, arith}
+use Rattle.std.proofs.lemmas.Bool.{ne_eqb, lt-ltb, not-false, eqb-false}
+use Rattle.std.proofs.lemmas.Bool.Decides.{nat_tests}
 use Rattle.stage.specs.declared.setting.Setting.{Setting}
 use Rattle.stage.specs.declared.fault.StageFault.{StageFault}
 use Rattle.stage.specs.declared.fault.StageFault.TheVariants.{ShortBuffer, BadSetting, NoWord, NotCovering, NotBits}
@@ -11,9 +12,6 @@ use Rattle.stage.specs.Calls.{word_length, covering, forward_refusal, back_refus
 
 pub passed : {F : Type 0} (t : Bool) (f : F) (ts : List (Bool × F)) → t ≡ false → first_fault ((t, f) ∷ ts) ≡ first_fault ts
 passed t f ts e = ap (λ x. cond x (Some f) (first_fault ts)) e
-
-pub stopped : {F : Type 0} (t : Bool) (f : F) (ts : List (Bool × F)) → t ≡ true → first_fault ((t, f) ∷ ts) ≡ Some f
-stopped t f ts e = ap (λ x. cond x (Some f) (first_fault ts)) e
 
 -- where no test stops a call, each one lets it pass
 pub first_none : {F : Type 0} (t : Bool) (f : F) (ts : List (Bool × F)) → first_fault ((t, f) ∷ ts) ≡ None → (t ≡ false) × (first_fault ts ≡ None)
@@ -59,25 +57,22 @@ module _ {m : Meaning} {n : ℕ} {s : Setting} {work side : List ℕ} (o : Open 
   open_length = ap (λ x. cond x (m.size n s.output) 0) o.in_range
 
   pub open_seeded : s.seed < 2 ^ 31
-  open_seeded =
-      let p = and_parts (ltb 0 s.output) (leb s.output 7680 && ltb s.seed (2 ^ 31)) o.in_range in
-      ltb-true s.seed (2 ^ 31) (and_parts (leb s.output 7680) (ltb s.seed (2 ^ 31)) p.1).1
+  open_seeded = let e = o.in_range in grind (arith, nat_tests)
 
   pub open_work : 7680 ≤ length work
-  open_work = ltb-false (length work) 7680 (or_parts (ltb (length work) 7680) (ltb (length side) 7680) o.roomy).0
+  open_work = let e = o.roomy in grind (arith, nat_tests)
 
   pub open_side : 7680 ≤ length side
-  open_side = ltb-false (length side) 7680 (or_parts (ltb (length work) 7680) (ltb (length side) 7680) o.roomy).1
+  open_side = let e = o.roomy in grind (arith, nat_tests)
 
   pub open_covering : covering m n s ≡ m.covers n s.output
-  open_covering = ap (λ x. x && m.covers n s.output) (lt-ltb 0 (word_length m n s) (omega (arith, open_length, o.some)))
+  open_covering = let none : ltb 0 (word_length m n s) ≡ true = lt-ltb 0 (word_length m n s) (omega (arith, open_length, o.some)) in rw none
 
   open_tests : (ts : List (Bool × StageFault)) →
       first_fault ((short work side, ShortBuffer) ∷ (not (ranged s), BadSetting) ∷ (eqb (word_length m n s) 0, NoWord) ∷ ts) ≡ first_fault ts
   open_tests ts =
-      passed (short work side) ShortBuffer ((not (ranged s), BadSetting) ∷ (eqb (word_length m n s) 0, NoWord) ∷ ts) o.roomy
-      ∙ passed (not (ranged s)) BadSetting ((eqb (word_length m n s) 0, NoWord) ∷ ts) (ap not o.in_range)
-      ∙ passed (eqb (word_length m n s) 0) NoWord ts (ne_eqb (word_length m n s) 0 (λ z. omega (arith, open_length, o.some, z)))
+      let none : eqb (word_length m n s) 0 ≡ false = ne_eqb (word_length m n s) 0 (λ z. omega (arith, open_length, o.some, z)) in
+      rw (o.roomy, none, o.in_range)
 
   pub open_forward : forward_refusal m n s work side ≡ first_fault ((not (binary (take n work)), NotBits) ∷ [])
   open_forward = open_tests ((not (binary (take n work)), NotBits) ∷ [])
@@ -86,5 +81,4 @@ module _ {m : Meaning} {n : ℕ} {s : Setting} {work side : List ℕ} (o : Open 
       ≡ first_fault ((not (m.covers n s.output), NotCovering) ∷ (not (binary (take (m.size n s.output) work)), NotBits) ∷ [])
   open_back =
       open_tests ((not (covering m n s), NotCovering) ∷ (not (binary (take (word_length m n s) work)), NotBits) ∷ [])
-      ∙ ap (λ x. first_fault ((not x, NotCovering) ∷ (not (binary (take (word_length m n s) work)), NotBits) ∷ [])) open_covering
-      ∙ ap (λ x. first_fault ((not (m.covers n s.output), NotCovering) ∷ (not (binary (take x work)), NotBits) ∷ [])) open_length
+      ∙ rw (open_covering, open_length)

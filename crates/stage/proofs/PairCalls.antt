@@ -62,7 +62,7 @@ module _ {a b : Meaning} (la : Lawful a) (lb : Lawful b) (n : ℕ) (s : Setting)
           let sz = lb.sized (a.size n s.output) s.output o.some in
           let lw : length w1 ≡ length work = left_work x w1 (a.size n s.output) xb.0 sz.1 acc.work_is in
           let ld : length d1 ≡ length side = left_side d1 acc.side_is in
-          let h3 : Forward b (a.size n s.output) s w1 d1 w2 d2 r = subst (λ j. Forward b j s w1 d1 w2 d2 r) k_is h2 in
+          let h3 : Forward b (a.size n s.output) s w1 d1 w2 d2 r = rw k_is at h2 in
           let tk : take (a.size n s.output) w1 ≡ x = ap (take (a.size n s.output)) acc.work_is ∙ take-padded x (a.size n s.output) (length work) xb.0 in
           let acc2 = forward_accepted (open_second_at w1 d1 lw ld) w2 d2 r (ap binary tk ∙ xb.1) h3 in
           let same : word b (a.size n s.output) s.output s.seed (take (a.size n s.output) w1) ≡ word (paired a b) n s.output s.seed (take n work)
@@ -234,22 +234,19 @@ module _ {a b : Meaning} (la : Lawful a) (lb : Lawful b) (n : ℕ) (s : Setting)
   k_here = k_is ∙ open_length (open_first la lb n s work side here)
 
   pub back_stops : (w d : List ℕ) (f : StageFault) → Back b k s work side w d (Err f) → Back (paired a b) n s work side w d (Err f)
-  back_stops w d f h = pair_back_first la lb n s work side here cov_here w d f (subst (λ j. Back b j s work side w d (Err f)) k_here h)
+  back_stops w d f h = pair_back_first la lb n s work side here cov_here w d f (rw k_here at h)
 
   module _ (w d : List ℕ) (j : ℕ) (h : Back b k s work side w d (Ok j)) where
     middle : Middle la lb n s work side here w d
-    middle = pair_middle la lb n s work side here cov_here w d j (subst (λ i. Back b i s work side w d (Ok j)) k_here h)
+    middle = pair_middle la lb n s work side here cov_here w d j (rw k_here at h)
 
     pub back_finds : (w2 d2 : List ℕ) (i : ℕ) → Back a n s w d w2 d2 (Ok i) → Back (paired a b) n s work side w2 d2 (Ok i)
     back_finds = pair_back_ok la lb n s work side here cov_here w d middle
 
     module _ (w2 d2 : List ℕ) (f : StageFault) (h2 : Back a n s w d w2 d2 (Err f)) (w3 d3 : List ℕ) (r : Result ℕ StageFault)
         (h3 : Forward b k s w2 d2 w3 d3 r) where
-      again_here : Forward b (a.size n s.output) s w2 d2 w3 d3 r
-      again_here = subst (λ i. Forward b i s w2 d2 w3 d3 r) k_here h3
-
       pub back_lacks : Back (paired a b) n s work side w3 d3 (Err f)
-      back_lacks = pair_back_none la lb n s work side here cov_here w d middle w2 d2 f h2 w3 d3 r again_here
+      back_lacks = pair_back_none la lb n s work side here cov_here w d middle w2 d2 f h2 w3 d3 r (rw k_here at h3)
 
       pub back_again : {A : Type 0} (g : StageFault) → r ≡ Err g → A
-      back_again g e = pair_back_again la lb n s work side here cov_here w d middle w2 d2 f h2 w3 d3 r again_here g e
+      back_again g e = pair_back_again la lb n s work side here cov_here w d middle w2 d2 f h2 w3 d3 r (rw k_here at h3) g e

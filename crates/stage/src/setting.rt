@@ -16,6 +16,6 @@ impl Setting {
     pub fn in_range(self) -> bool
         ensures { result ≡ ranged self }
     {
-        self.output > 0 && self.output <= MOST_BITS && self.seed < 1 << 31
+        (1..=MOST_BITS).contains(&self.output) && self.seed < 1 << 31
     }
 }

@@ -1,7 +1,6 @@
 #![tactic(auto)]
 
-ghost use Rattle.std.specs.Prelude.{◌≡◌, ◌*◌, ◌≤◌, ◌↔◌, [], ◌∷◌, length, take, IsTrue, OnOk, OnErr, IfErr, ◌≢◌};
-ghost use Rattle.std.specs.List.{AllByRecursion};
+ghost use Rattle.std.specs.Prelude.{◌≡◌, ◌*◌, ◌≤◌, ◌↔◌, [], ◌∷◌, length, take, IsTrue, OnOk, OnErr, IfErr, ◌≢◌, All};
 ghost use Rattle.stage.specs.Bits.{xor, zeros, padded};
 ghost use Rattle.stage.specs.declared.fault.StageFault.TheVariants.{NoBlock};
 ghost use Rattle.tail_biting.specs.Coding.{coding, coded, uncoded, stream};
@@ -145,7 +144,7 @@ fn find_block(word: &[u8], block: &mut [u8])
 
 // Adds the stream of a block at these taps to `out`.
 fn add_stream(block: &[u8], taps: &[usize], out: &mut [u8])
-    requires near { AllByRecursion (λ t. t ≤ length block.now) taps.now }
+    requires near { All (λ t. t ≤ length block.now) taps.now }
     requires same { length out.old ≡ length block.now }
     ensures { out.new ≡ xor out.old (stream taps.now block.now) }
 {

@@ -27,9 +27,7 @@ impl<S: Stage, P: Point> Cell<S, P> {
     pub fn is_covered(&self) -> bool
         ensures { result ≡ is_covered (cell_of S.Stage.meaning self.now).chain (cell_of S.Stage.meaning self.now).pending }
     {
-        match self.pending {
-            Some(course) => covers(&self.chain, course),
-            None => false,
-        }
+        self.pending
+            .is_some_and(|course| covers(&self.chain, course))
     }
 }

@@ -70,7 +70,7 @@ impl Parked {
     // Another parked end with this one's identity and time.
     pub fn twin(&self) -> Parked
         ensures same { result ≡ self.now }
-        ensures ranged { InRange result }
+        ensures ranged { InRange self.now }
     {
         Parked {
             identity: self.identity,

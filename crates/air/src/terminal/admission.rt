@@ -54,10 +54,7 @@ impl<S: Stage, P: Point> Terminal<S, P> {
         ensures value { result ≡ awaited_length (terminal_of S.Stage.meaning self.now).awaited }
         ensures most { result ≤ 2536 }
     {
-        match self.awaited {
-            Some(course) => course.length(),
-            None => 0,
-        }
+        self.awaited.map_or(0, |course| course.length())
     }
 
     // Test 18, by the length of the block buffer.

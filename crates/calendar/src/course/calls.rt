@@ -90,7 +90,8 @@ impl Course {
     // The length of the block.
     pub fn length(self) -> usize
         ensures value { result ≡ self.grant.length }
-        ensures range { (16 ≤ result) × (result ≤ 2536) }
+        ensures least { 16 ≤ result }
+        ensures most { result ≤ 2536 }
         ensures allowed { Allowed self.grant }
     {
         self.grant.length

@@ -1,8 +1,7 @@
-use Rattle.std.proofs.Common.{Some, sym, ap, ◌∙◌}
-use Rattle.std.specs.Option.{option_map}
+use Rattle.std.proofs.Common.{Some, ap}
 use Rattle.std.proofs.lemmas.Result.{err_from_is_err_and}
 use Rattle.air.specs.Terminals.{Awaiting, with_awaited}
-use Rattle.air.specs.TerminalViews.{awaiting_of, terminal_of}
+use Rattle.air.specs.TerminalViews.{terminal_of}
 use Rattle.air.proofs.Tested.{expect_stops}
 use Rattle.air.proofs.Parted.{begins}
 use Rattle.air.proofs.terminal.Terminal.expect.Goals as goal
