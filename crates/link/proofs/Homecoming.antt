@@ -1,6 +1,6 @@
 -- After every list of calls, the terminal and the account are what the cell makes them. Assumes nothing.
-use Rattle.std.proofs.Common.{◌≡◌, ℕ, ◌≤◌, Bool, true, false, cond, not, ◌&&◌, eqb, List, [], ◌∷◌, ◌++◌, length, take, is_some, IfSome, Some, None, Option, unwrap_or, sym, refl, ap, ◌∙◌, subst, arith}
-use Rattle.std.proofs.lemmas.Bool.{and_right, cond_both}
+use Rattle.std.proofs.Common.{◌≡◌, ℕ, ◌≤◌, Bool, true, false, cond, not, ◌&&◌, eqb, List, [], ◌∷◌, ◌++◌, length, take, is_some, IfSome, Some, None, Option, unwrap_or, sym, refl, ap, ◌∙◌, ⊎_elim, subst, arith}
+use Rattle.std.proofs.lemmas.Bool.{and_right, cases_Bool, cond_both}
 use Rattle.std.proofs.lemmas.List.{append-nil, append_assoc}
 use Rattle.stage.specs.Meaning.{Meaning, Lawful}
 use Rattle.stage.specs.Refusals.{short}
@@ -21,7 +21,7 @@ use Rattle.air.specs.Ends.{End, InRange}
 use Rattle.air.specs.Refusals.{settled, offer_refusal, end_refusal}
 use Rattle.air.specs.Cells.{CellState, Sending, written, offered, with_pending, sent_bits, is_covered}
 use Rattle.air.specs.Terminals.{TerminalState, Awaiting, Hearing, awaited_length, short_block, due, hear_refusal, hearing}
-use Rattle.link.specs.Calls.{Call, offer, subframe, withdraw, refusal, turned_down, accepting, called}
+use Rattle.link.specs.Calls.{Call, offer, subframe, withdraw, turned_down, accepting, called}
 use Rattle.link.specs.Account.{Account, ticking, booking, booked, opened}
 use Rattle.link.specs.Following.{LinkState, Buffers, on_air, told, forgot, handed_at, following, followed, linked_on, handed_on, Serves}
 use Rattle.link.specs.Home.{Run, handed_over, Served, accounted, BlocksComeHome}
@@ -129,11 +129,12 @@ lasts_new m busy g work side t e timed =
 
 -- the terminal is told of the grant, where it is covered
 told_is : (c : CellState) (g : Grant) (work : List ℕ) (p : Option Sending) → (is_some p ≡ false) × Admitted c.chain g (take g.length work)
-    → (v : Bool) → c.chain.covers g.length (output g) ≡ v
-    → cond v (told (companion (with_pending c p)) g) (companion (with_pending c p)) ≡ companion (offered c g work)
-told_is c g work (Some s) a v e = cc (a.0)
-told_is c g work None a true e = rw (expect_accepts c.chain g (take g.length work) a.1 e, e, reads_none g)
-told_is c g work None a false e = rw e
+    → cond (c.chain.covers g.length (output g)) (told (companion (with_pending c p)) g) (companion (with_pending c p))
+    ≡ companion (offered c g work)
+told_is c g work (Some s) a = cc (a.0)
+told_is c g work None a =
+    ⊎_elim (λ e. rw (expect_accepts c.chain g (take g.length work) a.1 e, e, reads_none g)) (λ e. rw e)
+    (cases_Bool (c.chain.covers g.length (output g)))
 
 -- ---- a withdrawal
 
@@ -141,13 +142,7 @@ forgot_is : (c : CellState) (p : Option Sending)
     → cond (is_covered c.chain p) (forgot (companion (with_pending c p))) (companion (with_pending c p)) ≡ companion (with_pending c None)
 unfolding end_refusal
 forgot_is c None = refl
-forgot_is c (Some s) = go (c.chain.covers s.going.grant.length (output s.going.grant)) refl
-  where
-    go : (v : Bool) → c.chain.covers s.going.grant.length (output s.going.grant) ≡ v
-        → cond (is_covered c.chain (Some s)) (forgot (companion (with_pending c (Some s)))) (companion (with_pending c (Some s)))
-        ≡ companion (with_pending c None)
-    go true e = rw e
-    go false e = rw e
+forgot_is c (Some s) = ⊎_elim (λ e. rw e) (λ e. rw e) (cases_Bool (c.chain.covers s.going.grant.length (output s.going.grant)))
 
 -- ---- any call
 
@@ -176,7 +171,7 @@ module _ {X : Type 0} (K : Kind X) (kind : LawfulKind K) where
       law = sound.law;
       pends = lasts_new c.chain (is_some c.pending) g work side c.time e sound.timed;
     };
-    terminal_is = told_is c g work c.pending (offer_admits c.chain (is_some c.pending) g work side e) (c.chain.covers g.length (output g)) refl;
+    terminal_is = told_is c g work c.pending (offer_admits c.chain (is_some c.pending) g work side e);
     account_is = rw append-nil;
   }
   accepted_call c blocks b (subframe work side grid) sound serves e =
@@ -202,9 +197,7 @@ module _ {X : Type 0} (K : Kind X) (kind : LawfulKind K) where
   step : (c : CellState) (blocks : List (List ℕ)) (b : Buffers) (x : Call X) → Sound c → Serves (tied_link c) b x
       → Tied (called K c x) blocks (followed K (tied_link c) b x) (booked (account_of c blocks) x)
   step c blocks b x sound serves =
-      subst (λ v. Tied (called K c x) blocks (followed K (tied_link c) b x)
-      (settled (refusal c.chain v x) (account_of c blocks) (booking (account_of c blocks) x)))
-      (sym (busy_noted c.pending))
+      rw (busy_noted c.pending)
       (settle (turned_down c x) c (accepting K c x) blocks (following K (tied_link c) b x) (booking (account_of c blocks) x) sound
       (accepted_call c blocks b x sound serves))
 

@@ -1,8 +1,9 @@
 -- A terminal that has followed a cell hears its subframe as the account ticks it. Assumes nothing.
-use Rattle.std.proofs.Common.{◌≡◌, ℕ, suc, ◌+◌, ◌*◌, ◌^◌, ◌<◌, ◌≤◌, Bool, true, false, cond, eqb, leb, List, ◌++◌, length, take, drop, Some, None, Option, sym, refl, ap, add-one, arith, rules}
+use Rattle.std.proofs.Common.{◌≡◌, ℕ, suc, ◌+◌, ◌*◌, ◌^◌, ◌<◌, ◌≤◌, Bool, true, false, cond, eqb, List, ◌++◌, take, drop, Some, None, Option, sym, refl, ap, ⊎_elim, add-one, arith, rules}
 use Rattle.std.proofs.Math.Seq.{take-add}
-use Rattle.std.proofs.lemmas.Bool.{and_parts, cond_both, eqb-true, eqb-false, leb-true}
-use Rattle.std.proofs.lemmas.List.{length-take-le, length-drop, take_all, take_at}
+use Rattle.std.proofs.lemmas.Bool.{cases_Bool, cond_both, eqb-true}
+use Rattle.std.proofs.lemmas.Bool.Decides.{nat_tests}
+use Rattle.std.proofs.lemmas.List.{length-take, length-drop, take_all, take_at}
 use Rattle.stage.specs.Bits.{Bits}
 use Rattle.stage.specs.Meaning.{Meaning, Lawful, word}
 use Rattle.stage.proofs.Binary.{binary-take, binary-drop}
@@ -22,8 +23,7 @@ use Rattle.link.proofs.Ticking.{ticked_after, completing}
 
 part_is : (n p : ℕ) (w : List ℕ) → Bits (part_bits * n) w → p < n → Bits part_bits (part_of p w)
 part_is n p w h low =
-    let long : 320 ≤ length (drop (320 * p) w) = omega (arith, length-drop (320 * p) w, h.0) in
-    (length-take-le 320 (drop (320 * p) w) long, binary-take 320 (drop (320 * p) w) (binary-drop (320 * p) w h.1))
+    (simp (length-take, length-drop) (omega (arith, h.0)), binary-take 320 (drop (320 * p) w) (binary-drop (320 * p) w h.1))
 
 -- ---- what a cell keeps of a pending grant, and what its terminal and the account have of it
 
@@ -74,7 +74,7 @@ pub lasts_next : (m : Meaning) (s : Sending) → Lasts m s → eqb (owed s.going
 lasts_next m s lasts e =
     record {
       admitted = lasts.admitted;
-      more = (let ne = eqb-false (owed s.going.grant s.going.gone) 0 e in omega (arith, lasts.more));
+      more = grind (arith, nat_tests, lasts.more);
       timed = lasts.timed;
     }
 
@@ -103,8 +103,7 @@ module _ (identity : ℕ) (small : identity ≤ 503) (m : Meaning) (law : Lawful
 
   pub seeded : (k : ℕ) → seed_at identity g s.going.start k < 2 ^ 31
   seeded k =
-      seed_small identity g s.going.start k small
-      (leb-true g.rnti 65535 (and_parts (leb 1 g.rnti) (leb g.rnti 65535) lasts.admitted.allowed.called).1) (omega (arith, lasts.timed))
+      seed_small identity g s.going.start k small (grind (arith, nat_tests, lasts.admitted.allowed.called)) (omega (arith, lasts.timed))
 
   word_is : (k : ℕ) → Bits (part_bits * g.subframes) (word_at identity m s k)
   word_is k = rw lasts.admitted.size at (word_bits law g.length (output g) (seed_at identity g s.going.start k) sized (seeded k) s.block lasts.admitted.bits)
@@ -128,11 +127,8 @@ module _ (identity : ℕ) (small : identity ≤ 503) (m : Meaning) (law : Lawful
   module _ (cov : m.covers g.length (output g) ≡ true) where
     awaited_next : (read : List ℕ) → read ≡ take (part_bits * reads g (suc k)) w
         → one_heard (mirror identity m s) read ≡ awaiting identity m (one_sent s)
-    awaited_next read e = go (eqb (owed g k) 0) refl
-      where
-        go : (b : Bool) → eqb (owed g k) 0 ≡ b → one_heard (mirror identity m s) read ≡ awaiting identity m (one_sent s)
-        go true h = rw h
-        go false h = rw (h, cov, e, add-one)
+    awaited_next read e =
+        ⊎_elim (λ h. rw h) (λ (h : eqb (owed g k) 0 ≡ false). rw (h, cov, e, add-one)) (cases_Bool (eqb (owed g k) 0))
 
     -- the word that is read whole has the block
     found : first_copy g k ≡ true → last_part g k ≡ true
@@ -165,13 +161,11 @@ module _ (identity : ℕ) (small : identity ≤ 503) (m : Meaning) (law : Lawful
 
   pub heard_right : (buffer : List ℕ)
       → Right (awaited_length (awaiting identity m (Some s))) (hearing identity m false (awaiting identity m (Some s)) (sent_bits identity m s) buffer)
-  heard_right buffer = go (m.covers g.length (output g)) refl
-    where
-      go : (v : Bool) → m.covers g.length (output g) ≡ v
-          → Right (awaited_length (awaiting identity m (Some s))) (hearing identity m false (awaiting identity m (Some s)) (sent_bits identity m s) buffer)
-      go true cov = rw cov (right cov buffer _ _ refl refl)
-      go false cov = rw cov (record {
+  heard_right buffer =
+      ⊎_elim (λ cov. rw cov (right cov buffer _ _ refl refl))
+      (λ cov. rw cov (record {
         awaited_is = rw (sent_next s)
             (cond_both (eqb (owed g k) 0) None (Some (next s)) (λ p. None ≡ awaiting identity m p) (λ _. refl) (λ _. rw cov));
         handed_is = rw cov;
-      })
+      }))
+      (cases_Bool (m.covers g.length (output g)))

@@ -1,6 +1,7 @@
 -- What an accepted offer shows, and that its grant is expected where it is covered. Assumes nothing.
-use Rattle.std.proofs.Common.{◌≡◌, ℕ, ◌≤◌, Bool, true, false, not, ◌&&◌, eqb, ltb, leb, List, [], ◌∷◌, ◌++◌, length, take, None, sym, refl, arith}
-use Rattle.std.proofs.lemmas.Bool.{and_parts, or_parts, not-false, leb-true, eqb-true, eq-eqb, ne_eqb, ltb-false}
+use Rattle.std.proofs.Common.{◌≡◌, ℕ, Bool, true, false, not, List, [], ◌∷◌, ◌++◌, take, None, sym, arith}
+use Rattle.std.proofs.lemmas.Bool.{not-false}
+use Rattle.std.proofs.lemmas.Bool.Decides.{nat_tests}
 use Rattle.std.proofs.lemmas.List.{length-take-le}
 use Rattle.stage.specs.declared.fault.StageFault.TheVariants.{NotBits}
 use Rattle.stage.specs.Bits.{Bits, binary}
@@ -19,17 +20,6 @@ pub record Admitted (m : Meaning) (g : Grant) (block : List ℕ) : Type 0 where
   pub size : m.size g.length (output g) ≡ output g
   pub bits : Bits g.length block
 
-right_word : (none wrong : Bool) → none ≡ false → (not none && wrong) ≡ false → wrong ≡ false
-right_word false wrong a b = b
-right_word true wrong a b = cc
-
--- the work buffer holds the block
-long_enough : (g : Grant) (work side : List ℕ) → length_allowed g ≡ true → short work side ≡ false → g.length ≤ length work
-long_enough g work side a h =
-    let l = leb-true g.length 2536 (and_parts (leb g.length 2536) _ (and_parts (leb 16 g.length) _ a).1).0 in
-    let w = ltb-false (length work) 7680 (or_parts (ltb (length work) 7680) (ltb (length side) 7680) h).0 in
-    omega arith
-
 pub offer_admits : (m : Meaning) (busy : Bool) (g : Grant) (work side : List ℕ) → offer_refusal m busy g work side ≡ None
     → (busy ≡ false) × Admitted m g (take g.length work)
 unfolding offer_refusal
@@ -45,8 +35,8 @@ offer_admits m busy g work side h =
           repeated = not-false (repetitions_allowed g) p.1.1.1.0;
           sized = sized;
         };
-        size = eqb-true (m.size g.length (output g)) (output g) (not-false _ (right_word _ _ q.1.1.1.0 q.1.1.0));
-        bits = (length-take-le g.length work (long_enough g work side sized p.0), not-false (binary (take g.length work)) q.1.1.1.1.0);
+        size = grind (arith, nat_tests, q.1.1.0, q.1.1.1.0);
+        bits = (length-take-le g.length work (grind (arith, nat_tests, p.0, sized)), not-false (binary (take g.length work)) q.1.1.1.1.0);
       },
     )
 
@@ -54,6 +44,5 @@ pub expect_accepts : (m : Meaning) (g : Grant) (block : List ℕ) → Admitted m
     → expect_refusal m false g ≡ None
 unfolding expect_refusal
 expect_accepts m g block a cov =
-    let some : eqb (output g) 0 ≡ false = ne_eqb (output g) 0 (λ e. let n = count_some g a.allowed.counted in omega arith) in
-    let same : eqb (output g) (output g) ≡ true = eq-eqb (output g) (output g) refl in
-    rw (a.allowed.called, a.allowed.counted, a.allowed.repeated, a.allowed.sized, a.size, some, same, cov)
+    let n = count_some g a.allowed.counted in
+    rw (a.allowed.called, a.allowed.counted, a.allowed.repeated, a.allowed.sized, a.size, cov) (grind (arith, nat_tests))

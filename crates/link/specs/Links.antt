@@ -1,7 +1,9 @@
 -- What a link in memory stands for. Assumes nothing.
-use Rattle.std.specs.Prelude.{ℕ, List, length}
+use Rattle.std.specs.Prelude.{ℕ, List, length, Option}
 use Rattle.stage.specs.Bits.{zeros}
 use Rattle.stage.specs.Meaning.{Meaning}
+use Rattle.air.specs.declared.fault.EndFault.{EndFault}
+use Rattle.air.specs.Refusals.{settled}
 use Rattle.air.specs.CellViews.{cell_of}
 use Rattle.air.specs.TerminalViews.{terminal_of}
 use Rattle.link.specs.declared.driver.Link.{Link}
@@ -16,4 +18,8 @@ hears_in work side block = record { work = work; side = side; block = block }
 
 -- the terminal that follows hears in the call's own buffers, which the cell has zeroed, and in the link's block buffer
 abbrev pub heard_in : List ℕ → List ℕ → List ℕ → Buffers
-heard_in work side block = record { work = zeros (length work); side = zeros (length side); block = block }
+heard_in work side block = hears_in (zeros (length work)) (zeros (length side)) block
+
+-- what a call makes of a buffer: an accepted one zeroes it
+abbrev pub cleared : Option EndFault → List ℕ → List ℕ
+cleared refused buffer = settled refused buffer (zeros (length buffer))

@@ -1,13 +1,12 @@
 ghost use Rattle.std.specs.Prelude.{◌≡◌, [], length, is_some, OnErr};
 ghost use Rattle.std.specs.Result.{result_err};
-ghost use Rattle.stage.specs.Bits.{zeros};
 ghost use Rattle.calendar.specs.Grants.{output};
 ghost use Rattle.air.specs.Cells.{airs};
 ghost use Rattle.air.specs.Refusals.{subframe_refusal, offer_refusal, end_refusal, settled, answered};
 ghost use Rattle.air.specs.Terminals.{hears};
 ghost use Rattle.link.specs.Calls.{offer, subframe, withdraw};
 ghost use Rattle.link.specs.Following.{unheard, linked_on, handed_on, block_heard, Serves};
-ghost use Rattle.link.specs.Links.{link_of, heard_in};
+ghost use Rattle.link.specs.Links.{link_of, heard_in, cleared};
 ghost use Rattle.link.specs.Sinks.{Taken};
 
 use crate::driver::{Link, Subframe};
@@ -30,8 +29,8 @@ impl<S: Stage, P: Point> Link<S, P> {
         ensures answer { result ≡ answered (result_err result) ((link_of S.Stage.meaning self.old).cell.chain.covers grant.length (output grant)) }
         ensures link { link_of S.Stage.meaning self.new ≡ linked_on P.Point.kind (link_of S.Stage.meaning self.old) (heard_in work.old side.old self.old.block) (offer grant work.old side.old) }
         ensures block { self.new.block ≡ self.old.block }
-        ensures work { work.new ≡ settled (result_err result) work.old (zeros (length work.old)) }
-        ensures side { side.new ≡ settled (result_err result) side.old (zeros (length side.old)) }
+        ensures work { work.new ≡ cleared (result_err result) work.old }
+        ensures side { side.new ≡ cleared (result_err result) side.old }
         ensures untouched { OnErr result (self.new ≡ self.old) }
     {
         self.cell.offer(grant, work, side)?;
@@ -58,8 +57,8 @@ impl<S: Stage, P: Point> Link<S, P> {
         ensures handed { Taken K.Sink.takes sink.old (handed_on P.Point.kind (link_of S.Stage.meaning self.old) (heard_in work.old side.old self.old.block) (subframe work.old side.old grid.old)) sink.new }
         ensures served { Serves (link_of S.Stage.meaning self.old) (heard_in work.old side.old self.old.block) (subframe work.old side.old grid.old) }
         ensures block { self.new.block ≡ settled (result_err result) self.old.block (block_heard P.Point.kind (link_of S.Stage.meaning self.old) (heard_in work.old side.old self.old.block)) }
-        ensures work { work.new ≡ settled (result_err result) work.old (zeros (length work.old)) }
-        ensures side { side.new ≡ settled (result_err result) side.old (zeros (length side.old)) }
+        ensures work { work.new ≡ cleared (result_err result) work.old }
+        ensures side { side.new ≡ cleared (result_err result) side.old }
         ensures untouched { OnErr result (self.new ≡ self.old) }
     {
         let aired = self.air(grid, work, side)?;

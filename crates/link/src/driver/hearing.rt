@@ -1,11 +1,10 @@
 ghost use Rattle.std.specs.Prelude.{◌≡◌, false, length, is_some, OnErr};
 ghost use Rattle.std.specs.Result.{result_err};
-ghost use Rattle.stage.specs.Bits.{zeros};
 ghost use Rattle.air.specs.Cells.{airs, stepped};
 ghost use Rattle.air.specs.Refusals.{subframe_refusal, end_refusal, settled, answered};
 ghost use Rattle.air.specs.Terminals.{short_block, hears};
 ghost use Rattle.link.specs.Following.{unheard, hearkens, forgot};
-ghost use Rattle.link.specs.Links.{link_of, hears_in};
+ghost use Rattle.link.specs.Links.{link_of, hears_in, cleared};
 ghost use Rattle.link.specs.Sinks.{Taken};
 
 use crate::driver::Link;
@@ -29,8 +28,8 @@ impl<S: Stage, P: Point> Link<S, P> {
         ensures grid { grid.new ≡ settled (result_err result) grid.old (airs P.Point.kind (link_of S.Stage.meaning self.old).cell).grid }
         ensures link { link_of S.Stage.meaning self.new ≡ record { cell = settled (result_err result) (link_of S.Stage.meaning self.old).cell (stepped P.Point.kind (link_of S.Stage.meaning self.old).cell); terminal = (link_of S.Stage.meaning self.old).terminal } }
         ensures block { self.new.block ≡ self.old.block }
-        ensures work { work.new ≡ settled (result_err result) work.old (zeros (length work.old)) }
-        ensures side { side.new ≡ settled (result_err result) side.old (zeros (length side.old)) }
+        ensures work { work.new ≡ cleared (result_err result) work.old }
+        ensures side { side.new ≡ cleared (result_err result) side.old }
         ensures untouched { OnErr result (self.new ≡ self.old) }
     {
         self.cell.subframe(grid, work, side)
@@ -51,8 +50,8 @@ impl<S: Stage, P: Point> Link<S, P> {
         ensures room { length self.old.block ≡ 2536 }
         ensures long { short_block (link_of S.Stage.meaning self.old).terminal.awaited self.old.block ≡ false }
         ensures block { self.new.block ≡ settled (result_err result) self.old.block (hears P.Point.kind (link_of S.Stage.meaning self.old).terminal self.old.block grid.now).buffer }
-        ensures work { work.new ≡ settled (result_err result) work.old (zeros (length work.old)) }
-        ensures side { side.new ≡ settled (result_err result) side.old (zeros (length side.old)) }
+        ensures work { work.new ≡ cleared (result_err result) work.old }
+        ensures side { side.new ≡ cleared (result_err result) side.old }
         ensures untouched { OnErr result (self.new ≡ self.old) }
     {
         let n = self.terminal.awaited_length();
