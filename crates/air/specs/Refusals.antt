@@ -1,7 +1,7 @@
 -- The tests of the calls of a cell and a terminal, in their order. Assumes nothing.
-use Rattle.std.specs.Prelude.{ℕ, Bool, not, ◌&&◌, List, [], ◌∷◌, ◌++◌, take, Some, None, Ok, Err, Option, Result, ◌==◌}
+use Rattle.std.specs.Prelude.{ℕ, Bool, not, ◌&&◌, List, [], ◌∷◌, ◌++◌, length, take, Some, None, Ok, Err, Option, Result, ◌==◌}
 use Rattle.stage.specs.declared.fault.StageFault.TheVariants.{NoWord, NotCovering, NotBits}
-use Rattle.stage.specs.Bits.{binary}
+use Rattle.stage.specs.Bits.{binary, zeros}
 use Rattle.stage.specs.Meaning.{Meaning}
 use Rattle.stage.specs.Refusals.{first_fault, short}
 use Rattle.calendar.specs.declared.grant.Grant.{Grant}
@@ -14,6 +14,10 @@ use Rattle.air.specs.declared.fault.EndFault.TheVariants.{ShortBuffer, Grant as 
 abbrev pub settled : {X : Type 0} → Option EndFault → X → X → X
 settled None before then = then
 settled (Some f) before then = before
+
+-- what a call makes of a buffer: an accepted one zeroes it
+abbrev pub cleared : Option EndFault → List ℕ → List ℕ
+cleared refused buffer = settled refused buffer (zeros (length buffer))
 
 -- what a call answers
 abbrev pub answered : {X : Type 0} → Option EndFault → X → Result X EndFault

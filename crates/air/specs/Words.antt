@@ -18,7 +18,7 @@ park_words Subframe = codes "subframe above 9"
 
 abbrev pub end_words : EndFault → List ℕ
 end_words ShortBuffer = codes "work or side buffer short"
-end_words (Grant f) = codes "grant refused: " ++ grants.fault_words f
+end_words (Grant f) = grants.fault_words f
 end_words Pending = codes "a grant is pending"
 end_words WordLength = codes "the chain has a word, but not one as long as the grant asks"
 end_words (Chain f) = codes "chain refused: " ++ stages.fault_words f

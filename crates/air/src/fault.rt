@@ -75,7 +75,7 @@ impl fmt::Display for EndFault {
 
     fn fmt<W: fmt::Write>(&self, f: &mut fmt::Formatter<W>) -> fmt::Result {
         f.write_str(match self {
-            EndFault::Grant(fault) => return write!(f, "grant refused: {fault}"),
+            EndFault::Grant(fault) => return write!(f, "{fault}"),
             EndFault::Chain(fault) => return write!(f, "chain refused: {fault}"),
             EndFault::ShortBuffer => "work or side buffer short",
             EndFault::Pending => "a grant is pending",

@@ -1,6 +1,6 @@
 #![tactic(auto)]
 
-ghost use Rattle.std.specs.Prelude.{◌≡◌, ℕ, ◌^◌, ◌<◌, true, length, Decides};
+ghost use Rattle.std.specs.Prelude.{◌≡◌, ◌^◌, ◌<◌, true, length};
 ghost use Rattle.stage.specs.Bits.{binary};
 ghost use Rattle.check_bits.specs.Checking.{checking, check_bits_of, taken_in, to_bits, CheckBitsStand};
 ghost use Rattle.check_bits.specs.Checks.{checking_lawful};

@@ -1,9 +1,7 @@
 -- What a link in memory stands for. Assumes nothing.
-use Rattle.std.specs.Prelude.{ℕ, List, length, Option}
+use Rattle.std.specs.Prelude.{ℕ, List, length}
 use Rattle.stage.specs.Bits.{zeros}
 use Rattle.stage.specs.Meaning.{Meaning}
-use Rattle.air.specs.declared.fault.EndFault.{EndFault}
-use Rattle.air.specs.Refusals.{settled}
 use Rattle.air.specs.CellViews.{cell_of}
 use Rattle.air.specs.TerminalViews.{terminal_of}
 use Rattle.link.specs.declared.driver.Link.{Link}
@@ -19,7 +17,3 @@ hears_in work side block = record { work = work; side = side; block = block }
 -- the terminal that follows hears in the call's own buffers, which the cell has zeroed, and in the link's block buffer
 abbrev pub heard_in : List ℕ → List ℕ → List ℕ → Buffers
 heard_in work side block = hears_in (zeros (length work)) (zeros (length side)) block
-
--- what a call makes of a buffer: an accepted one zeroes it
-abbrev pub cleared : Option EndFault → List ℕ → List ℕ
-cleared refused buffer = settled refused buffer (zeros (length buffer))

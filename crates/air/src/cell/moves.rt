@@ -37,13 +37,7 @@ impl<S: Stage + Drop, P: Point> Cell<S, P> {
     pub fn stop(self) -> Parked
         ensures { result ≡ record { identity = (cell_of S.Stage.meaning self).identity; time = (cell_of S.Stage.meaning self).time } }
     {
-        let Cell {
-            end,
-            chain: _,
-            block: _,
-            pending: _,
-            kind: _,
-        } = self;
+        let Cell { end, .. } = self;
         end
     }
 }

@@ -1,11 +1,11 @@
 ghost use Rattle.std.specs.Prelude.{◌≡◌, ◌≤◌, true, length, take, is_some, IfOk, OnErr, Some};
 ghost use Rattle.std.specs.Result.{result_err};
-ghost use Rattle.stage.specs.Bits.{binary, zeros};
+ghost use Rattle.stage.specs.Bits.{binary};
 ghost use Rattle.calendar.specs.Courses.{begun};
 ghost use Rattle.air.specs.Cells.{offered};
 ghost use Rattle.air.specs.CellViews.{cell_of};
 ghost use Rattle.air.specs.Fits.{fits};
-ghost use Rattle.air.specs.Refusals.{offer_refusal, settled};
+ghost use Rattle.air.specs.Refusals.{offer_refusal, settled, cleared};
 
 use crate::asking::{asking, word_length};
 use crate::buffers::{clear_both, copy_front};
@@ -24,8 +24,8 @@ impl<S: Stage, P: Point> Cell<S, P> {
     pub fn offer(&mut self, grant: Grant, work: &mut [u8], side: &mut [u8]) -> Result<(), EndFault>
         ensures refusal { result_err result ≡ offer_refusal (cell_of S.Stage.meaning self.old).chain (is_some (cell_of S.Stage.meaning self.old).pending) grant work.old side.old }
         ensures cell { cell_of S.Stage.meaning self.new ≡ settled (result_err result) (cell_of S.Stage.meaning self.old) (offered (cell_of S.Stage.meaning self.old) grant work.old) }
-        ensures work { work.new ≡ settled (result_err result) work.old (zeros (length work.old)) }
-        ensures side { side.new ≡ settled (result_err result) side.old (zeros (length side.old)) }
+        ensures work { work.new ≡ cleared (result_err result) work.old }
+        ensures side { side.new ≡ cleared (result_err result) side.old }
         ensures untouched { OnErr result (self.new ≡ self.old) }
     {
         let course = self.admit(grant, work, side)?;

@@ -1,13 +1,12 @@
 ghost use Rattle.std.specs.Prelude.{◌≡◌, ◌+◌, ◌*◌, ◌≤◌, false, length, take, OnErr, Some, Ok};
 ghost use Rattle.std.specs.Result.{result_err};
-ghost use Rattle.stage.specs.Bits.{zeros};
 ghost use Rattle.stage.specs.Refusals.{short};
 ghost use Rattle.calendar.specs.Grants.{part_bits, output};
 ghost use Rattle.calendar.specs.Rounds.{owed};
 ghost use Rattle.air.specs.declared.answers.Airing.TheVariants.{Data};
 ghost use Rattle.air.specs.Cells.{airs, stepped, with_pending, round_word, part_due};
 ghost use Rattle.air.specs.CellViews.{sending_of, cell_of};
-ghost use Rattle.air.specs.Refusals.{subframe_refusal, settled, answered};
+ghost use Rattle.air.specs.Refusals.{subframe_refusal, settled, cleared, answered};
 
 use crate::answers::Airing;
 use crate::asking::round_setting;
@@ -35,8 +34,8 @@ impl<S: Stage, P: Point> Cell<S, P> {
         ensures answer { result ≡ answered (result_err result) (airs P.Point.kind (cell_of S.Stage.meaning self.old)).answer }
         ensures grid { grid.new ≡ settled (result_err result) grid.old (airs P.Point.kind (cell_of S.Stage.meaning self.old)).grid }
         ensures cell { cell_of S.Stage.meaning self.new ≡ settled (result_err result) (cell_of S.Stage.meaning self.old) (stepped P.Point.kind (cell_of S.Stage.meaning self.old)) }
-        ensures work { work.new ≡ settled (result_err result) work.old (zeros (length work.old)) }
-        ensures side { side.new ≡ settled (result_err result) side.old (zeros (length side.old)) }
+        ensures work { work.new ≡ cleared (result_err result) work.old }
+        ensures side { side.new ≡ cleared (result_err result) side.old }
         ensures untouched { OnErr result (self.new ≡ self.old) }
     {
         check_buffers(work, side)?;

@@ -1,8 +1,7 @@
-ghost use Rattle.std.specs.Prelude.{◌≡◌, length, is_some, OnErr, None};
+ghost use Rattle.std.specs.Prelude.{◌≡◌, is_some, OnErr, None};
 ghost use Rattle.std.specs.Result.{result_err};
-ghost use Rattle.stage.specs.Bits.{zeros};
 ghost use Rattle.calendar.specs.Times.{closed};
-ghost use Rattle.air.specs.Refusals.{expect_refusal, end_refusal, settled, answered};
+ghost use Rattle.air.specs.Refusals.{expect_refusal, end_refusal, settled, cleared, answered};
 ghost use Rattle.air.specs.Terminals.{expecting, with_awaited, hear_refusal, hears, heard};
 ghost use Rattle.air.specs.TerminalViews.{terminal_of, tuned, end_within};
 
@@ -65,8 +64,8 @@ impl<S: Stage, P: Point> Terminal<S, P> {
         ensures answer { result ≡ answered (result_err result) (hears P.Point.kind (terminal_of S.Stage.meaning self.old) block.old grid.now).outcome }
         ensures terminal { terminal_of S.Stage.meaning self.new ≡ settled (result_err result) (terminal_of S.Stage.meaning self.old) (heard P.Point.kind (terminal_of S.Stage.meaning self.old) block.old grid.now) }
         ensures block { block.new ≡ settled (result_err result) block.old (hears P.Point.kind (terminal_of S.Stage.meaning self.old) block.old grid.now).buffer }
-        ensures work { work.new ≡ settled (result_err result) work.old (zeros (length work.old)) }
-        ensures side { side.new ≡ settled (result_err result) side.old (zeros (length side.old)) }
+        ensures work { work.new ≡ cleared (result_err result) work.old }
+        ensures side { side.new ≡ cleared (result_err result) side.old }
         ensures untouched { OnErr result (self.new ≡ self.old) }
     {
         check_buffers(work, side)?;
@@ -98,13 +97,7 @@ impl<S: Stage + Drop, P: Point> Terminal<S, P> {
     pub fn stop(self) -> Parked
         ensures { result ≡ end_within (terminal_of S.Stage.meaning self) }
     {
-        let Terminal {
-            end,
-            chain: _,
-            awaited: _,
-            word: _,
-            kind: _,
-        } = self;
+        let Terminal { end, .. } = self;
         end
     }
 }

@@ -2,7 +2,7 @@ ghost use Rattle.std.specs.Prelude.{◌≡◌, ◌+◌, ◌*◌, ◌%◌, ◌^�
 ghost use Rattle.std.specs.Result.{result_err};
 ghost use Rattle.calendar.specs.Calendar.{CalendarHolds};
 ghost use Rattle.calendar.specs.Grants.{Allowed, grant_refusal, part_bits, output};
-ghost use Rattle.calendar.specs.Rounds.{copies, round, whole, part_at, owed, first_copy, last_part, round_first, seed_of, seed_at};
+ghost use Rattle.calendar.specs.Rounds.{copies, round, whole, part_at, owed, first_copy, last_part, round_first, seed_at};
 ghost use Rattle.calendar.specs.Times.{open_at};
 ghost use Rattle.calendar.specs.Courses.{begun, one_on};
 

@@ -2,11 +2,11 @@ ghost use Rattle.std.specs.Prelude.{◌≡◌, [], length, is_some, OnErr};
 ghost use Rattle.std.specs.Result.{result_err};
 ghost use Rattle.calendar.specs.Grants.{output};
 ghost use Rattle.air.specs.Cells.{airs};
-ghost use Rattle.air.specs.Refusals.{subframe_refusal, offer_refusal, end_refusal, settled, answered};
+ghost use Rattle.air.specs.Refusals.{subframe_refusal, offer_refusal, end_refusal, settled, cleared, answered};
 ghost use Rattle.air.specs.Terminals.{hears};
 ghost use Rattle.link.specs.Calls.{offer, subframe, withdraw};
 ghost use Rattle.link.specs.Following.{unheard, linked_on, handed_on, block_heard, Serves};
-ghost use Rattle.link.specs.Links.{link_of, heard_in, cleared};
+ghost use Rattle.link.specs.Links.{link_of, heard_in};
 ghost use Rattle.link.specs.Sinks.{Taken};
 
 use crate::driver::{Link, Subframe};

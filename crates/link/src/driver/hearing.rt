@@ -1,10 +1,10 @@
 ghost use Rattle.std.specs.Prelude.{◌≡◌, false, length, is_some, OnErr};
 ghost use Rattle.std.specs.Result.{result_err};
 ghost use Rattle.air.specs.Cells.{airs, stepped};
-ghost use Rattle.air.specs.Refusals.{subframe_refusal, end_refusal, settled, answered};
+ghost use Rattle.air.specs.Refusals.{subframe_refusal, end_refusal, settled, cleared, answered};
 ghost use Rattle.air.specs.Terminals.{short_block, hears};
 ghost use Rattle.link.specs.Following.{unheard, hearkens, forgot};
-ghost use Rattle.link.specs.Links.{link_of, hears_in, cleared};
+ghost use Rattle.link.specs.Links.{link_of, hears_in};
 ghost use Rattle.link.specs.Sinks.{Taken};
 
 use crate::driver::Link;
