@@ -80,10 +80,11 @@ fn streams(rt: &HostRuntime, block: &[u8], should_be: &str) -> anyhow::Result<()
     say(rt, &bits, should_be)
 }
 
+// The seed by the rule itself, and not by the crate that is tried.
 fn sequence(rt: &HostRuntime, slot: u8, symbol: u8, should_be: &str) -> anyhow::Result<()> {
     let factor = 7 * (u32::from(slot) + 1) + u32::from(symbol) + 1;
     let mut gold = Gold::new(1024 * factor * 601 + 601);
-    let bits = [0; 4].map(|_| gold.next_bit());
+    let bits: [u8; 4] = std::array::from_fn(|_| gold.next_bit());
     println!(rt; "  slot {slot}, symbol {symbol}")?;
     say(rt, &bits, should_be)
 }

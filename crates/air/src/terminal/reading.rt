@@ -21,8 +21,8 @@ use stage::fault::StageFault;
 use stage::stages::Stage;
 
 // Puts the bits of a part into the table.
-fn put_part(table: &mut [u8; 3200], from: usize, bits: &[u8])
-    requires { (from + 320 ≤ 3200) × (length bits.now ≡ 320) }
+fn put_part(table: &mut [u8; 3200], from: usize, bits: &[u8; 320])
+    requires { from + 320 ≤ 3200 }
     ensures { take (from + 320) table.new ≡ take from table.old ++ bits.now }
 {
     table[from..from + PART_BITS].copy_from_slice(bits);
@@ -33,13 +33,12 @@ impl<S: Stage, P: Point> Terminal<S, P> {
     pub(crate) fn take_in(
         &mut self,
         slot: Slot,
-        bits: &[u8],
+        bits: &[u8; 320],
         work: &mut [u8],
         side: &mut [u8],
         block: &mut [u8],
     ) -> Outcome
         requires slot { slot ≡ slot_of (closed self.old.end.time) self.old.awaited }
-        requires bits { length bits.now ≡ 320 }
         requires roomy { short work.old side.old ≡ false }
         requires room { short_block (terminal_of S.Stage.meaning self.old).awaited block.old ≡ false }
         ensures { (result, block.new, terminal_of S.Stage.meaning self.new) ≡ takes_in (terminal_of S.Stage.meaning self.old) bits.now block.old }
@@ -59,14 +58,13 @@ impl<S: Stage, P: Point> Terminal<S, P> {
     fn read_part(
         &mut self,
         course: Course,
-        bits: &[u8],
+        bits: &[u8; 320],
         work: &mut [u8],
         side: &mut [u8],
         block: &mut [u8],
     ) -> Outcome
         requires awaited { self.old.awaited ≡ Some course }
         requires slot { slot_of (closed self.old.end.time) self.old.awaited ≡ FirstCopy }
-        requires bits { length bits.now ≡ 320 }
         requires roomy { short work.old side.old ≡ false }
         requires room { course.grant.length ≤ length block.old }
         ensures { (result, block.new, terminal_of S.Stage.meaning self.new) ≡ takes_in (terminal_of S.Stage.meaning self.old) bits.now block.old }

@@ -8,5 +8,5 @@ returns c =
     let table = c.args.table.now in
     let ys = c.copy_from_slice.new.self in
     take-put_mid from (from + 320 - from) table ys (from + 320)
-    (omega (arith, ap length c.copy_from_slice.ensures.after, c.requires.1)) (omega (arith, c.told-table, c.requires.0))
+    (omega (arith, ap length c.copy_from_slice.ensures.after, c.told-bits)) (omega (arith, c.told-table, c.requires))
     ∙ ap (λ (v : List ℕ). take from table ++ v) c.copy_from_slice.ensures.after
