@@ -1,11 +1,9 @@
--- The taps of the registers, as the code has them.
-use Rattle.std.proofs.Common.{◌≡◌, ℕ, ◌/◌, ◌%◌, arith}
-use lib.Bits.{bit_xor, xor_add_and}
-use Rattle.gold.specs.Sequence.{fresh₁, fresh₂}
+-- The lowest bit of masks and sums, in whatever order the code adds them up.
+use Rattle.std.proofs.Common.{◌≡◌, ℕ, ◌+◌, ◌%◌, arith}
+use lib.Bits.{bit_and, bit_xor, and_mask, xor_add_and}
 
-pub tapped₁ : (x : ℕ) → bit_xor (x / 8) x % 2 ≡ fresh₁ x
-tapped₁ x = omega (arith, xor_add_and (x / 8) x)
+pub and_low : (a : ℕ) → bit_and a 1 ≡ a % 2
+and_low a = and_mask a 1
 
-pub tapped₂ : (x : ℕ) → bit_xor (bit_xor (bit_xor (x / 8) (x / 4)) (x / 2)) x % 2 ≡ fresh₂ x
-tapped₂ x =
-    omega (arith, xor_add_and (x / 8) (x / 4), xor_add_and (bit_xor (x / 8) (x / 4)) (x / 2), xor_add_and (bit_xor (bit_xor (x / 8) (x / 4)) (x / 2)) x)
+pub xor_low : (a b : ℕ) → bit_xor a b % 2 ≡ (a % 2 + b % 2) % 2
+xor_low a b = omega (arith, xor_add_and a b)
