@@ -30,18 +30,20 @@ pub fn admit(s: Setting, m: usize, work: &[u8], side: &[u8]) -> Result<(), Stage
     Ok(())
 }
 
-// Whether each of the first n bytes, as far as there are so many, is 0 or 1.
-fn are_bits(buffer: &[u8], n: usize) -> bool
-    ensures { result ≡ binary (take n buffer.now) }
+// Whether each byte is 0 or 1.
+fn are_bits(bytes: &[u8]) -> bool
+    ensures { result ≡ binary bytes.now }
 {
-    buffer.iter().take(n).all(|bit| *bit < 2)
+    bytes.iter().all(|bit| *bit < 2)
 }
 
-// Test 8, on the first n bytes.
+// Test 8: each of the first n bytes, as far as there are so many, is 0 or 1.
+#[tactic(auto, using(std::proofs::lemmas::List::take_min))]
 pub fn check_bits(buffer: &[u8], n: usize) -> Result<(), StageFault>
     ensures { result_err result ≡ first_fault ((not (binary (take n buffer.now)), NotBits) ∷ []) }
 {
-    if !are_bits(buffer, n) {
+    let end = n.min(buffer.len());
+    if !are_bits(&buffer[..end]) {
         return Err(StageFault::NotBits);
     }
     Ok(())
