@@ -1,12 +1,12 @@
 -- A walk over the bits of a matrix in the order in which they are read, and what is copied on the way. Assumes nothing.
-use Rattle.std.proofs.Common.{◌≡◌, ℕ, ◌+◌, ◌-◌, ◌*◌, ◌^◌, ◌<◌, ◌≤◌, Bool, true, false, cond, List, [], ◌∷◌, ◌++◌, map, length, take, drop, filter, get_or, Some, None, Option, MatchOption, sym, ap, ◌∙◌, subst, inl, inr, add-mul, zero-mul, mul-le-mul_right, arith}
-use Rattle.std.proofs.lemmas.Bool.{cases_lt}
+use Rattle.std.proofs.Common.{◌≡◌, ℕ, ◌+◌, ◌-◌, ◌*◌, ◌%◌, ◌^◌, ◌<◌, ◌≤◌, Bool, true, false, cond, List, [], ◌∷◌, ◌++◌, map, length, take, drop, filter, get_or, Some, None, Option, MatchOption, sym, ap, ◌∙◌, subst, inl, inr, add-mul, zero-mul, mul-le-mul_right, arith}
+use Rattle.std.proofs.lemmas.Bool.{cases_lt, le-leb, lt-leb}
 use Rattle.std.proofs.lemmas.List.{drop_more, drop_all, at_drop_all, length-drop, length-take-le, take_at, get_or-take, ext_get_or}
 use Rattle.std.proofs.lemmas.Nat.{mul-add-lt}
 use Rattle.stage.specs.Gather.{gathered}
 use Rattle.stage.proofs.Gathering.{length-gathered, slice_index-gathered}
-use Rattle.interleaver.specs.Interleaving.{order, rows, unused, used, cell, reading, places, left, bit_in, triple}
-use Rattle.interleaver.specs.Cells.{length-reading, slice_index-reading, length-places, places-within, places_once}
+use Rattle.interleaver.specs.Interleaving.{order, rows, unused, used, cell, reading, places, left, row_of, first_in, bit_in, triple}
+use Rattle.interleaver.specs.Cells.{order_below, length-reading, slice_index-reading, length-places, places-within, places_once}
 use Rattle.interleaver.specs.Triples.{length-triple, slice_index-triple, split}
 use Rattle.interleaver.proofs.Copies.{moved, Copied, copied_more}
 
@@ -46,6 +46,39 @@ module _ (d : ℕ) where
   pub left_end : (c r : ℕ) → 32 ≤ c → left d c r ≡ []
   unfolding left
   left_end c r h = at_drop_all bits (reading d) (c * rows d + r) (omega (arith, length-reading d, mul-le-mul_right (rows d) h))
+
+  pub first_stands : (c : ℕ) → c < 32
+      → ((first_in d (get_or order c 0) + unused d) % 32 ≡ get_or order c 0) × (row_of d (first_in d (get_or order c 0)) ≤ rows d)
+  first_stands c h = let low = order_below c h in (omega arith, omega arith)
+
+  -- a column is read from its first bit on
+  pub left_first : (c : ℕ) → c < 32 → left d c 0 ≡ left d c (row_of d (first_in d (get_or order c 0)))
+  left_first c h =
+      let x = get_or order c 0 in
+      let low = order_below c h in
+      elim (cases_lt x (unused d)) [
+        | inl l ↦ left_more c 0 None h (omega arith)
+            (ap (λ b. cond b (Some (cell x 0 - unused d)) None) (sym (lt-leb (unused d) (cell x 0) (omega arith))))
+            ∙ ap (left d c) (omega arith)
+        | inr l ↦ ap (left d c) (omega arith)
+      ]
+
+  -- one bit of a column is read
+  pub left_bit : (c p : ℕ) → c < 32 → p < d → (p + unused d) % 32 ≡ get_or order c 0
+      → left d c (row_of d p) ≡ p ∷ left d c (row_of d (p + 32))
+  left_bit c p h low at =
+      let q = cell (get_or order c 0) (row_of d p) in
+      let is : Some p ≡ bit_in d q =
+      ap Some (omega arith) ∙ ap (λ b. cond b (Some (q - unused d)) None) (sym (le-leb (unused d) q (omega arith))) in
+      left_more c (row_of d p) (Some p) h (omega arith) is ∙ ap (λ r. p ∷ left d c r) (omega arith)
+
+  -- a column is behind, and the next begins
+  pub left_next : (c p : ℕ) → c + 1 < 32 → d ≤ p → row_of d p ≤ rows d
+      → left d c (row_of d p) ≡ left d (c + 1) (row_of d (first_in d (get_or order (c + 1) 0)))
+  left_next c p h past inside = left_turn c (row_of d p) (omega arith) ∙ left_first (c + 1) h
+
+  pub left_none : (c p : ℕ) → 31 ≤ c → d ≤ p → row_of d p ≤ rows d → left d c (row_of d p) ≡ []
+  left_none c p h past inside = left_turn c (row_of d p) (omega arith) ∙ left_end (c + 1) 0 (omega arith)
 
 -- the bit that is read at place j
 abbrev pub place : ℕ → ℕ → ℕ

@@ -11,7 +11,7 @@ use Rattle.std.proofs.lemmas.List.Kept.{AllPairs-filter}
 use Rattle.std.proofs.lemmas.Nat.{mul-add-lt, div_below, mod_below, div-add-mod'}
 use Rattle.std.proofs.lemmas.Bool.{cases_lt, eqb-true, ltb-true, le-leb, leb-true, and_parts}
 use Rattle.interleaver.specs.Interleaving.{order, rows, unused, used, cell, column, reading, places}
-use Rattle.interleaver.specs.Kept.{kept_at, head_kept, kept_joined, kept_counting}
+use Rattle.interleaver.specs.Kept.{kept_at, head_kept, kept_of_each, kept_counting}
 use Rattle.interleaver.specs.Joins.{length-joined, slice_index-joined}
 
 -- a test that is computed at each number below n
@@ -31,7 +31,7 @@ turn =
     16 ∷ 0 ∷ 24 ∷ 8 ∷ 20 ∷ 4 ∷ 28 ∷ 12 ∷ 18 ∷ 2 ∷ 26 ∷ 10 ∷ 22 ∷ 6 ∷ 30 ∷ 14
     ∷ 17 ∷ 1 ∷ 25 ∷ 9 ∷ 21 ∷ 5 ∷ 29 ∷ 13 ∷ 19 ∷ 3 ∷ 27 ∷ 11 ∷ 23 ∷ 7 ∷ 31 ∷ 15 ∷ []
 
-order_below : (c : ℕ) → c < 32 → slice_index order c < 32
+pub order_below : (c : ℕ) → c < 32 → slice_index order c < 32
 order_below c h = ltb-true (slice_index order c) 32 (checked (λ c. nat_lt (slice_index order c) 32) 32 refl c h)
 
 turn_below : (c : ℕ) → c < 32 → slice_index turn c < 32
@@ -120,7 +120,7 @@ length_kept (suc n) =
     let m = rows d - 1 in
     let e : rows d ≡ suc m = omega arith in
     let u = used_columns (unused d) (omega arith) in
-    kept_joined (used d) (used d) (column d) m (λ c. column_kept d m c e) order ∙ ap (λ v. v + 32 * m) u ∙ omega arith
+    kept_of_each (used d) (used d) (column d) m (λ c. column_kept d m c e) order ∙ ap (λ v. v + 32 * m) u ∙ omega arith
 
 module _ (d : ℕ) where
   pub length-places : length (places d) ≡ d

@@ -44,6 +44,14 @@ places d = map (λ q. q - unused d) (filter (used d) (reading d))
 unfoldable pub left : ℕ → ℕ → ℕ → List ℕ
 left d c r = map (λ q. q - unused d) (filter (used d) (drop (c * rows d + r) (reading d)))
 
+-- the row in which bit p stands
+abbrev pub row_of : ℕ → ℕ → ℕ
+row_of d p = (p + unused d) / 32
+
+-- the first bit of column c: its top cell may be unused, and bits of one column stand 32 cells apart
+abbrev pub first_in : ℕ → ℕ → ℕ
+first_in d c = (32 + c - unused d) % 32
+
 -- the bit in cell q, or none where it is unused
 abbrev pub bit_in : ℕ → ℕ → Option ℕ
 bit_in d q = cond (used d q) (Some (q - unused d)) None

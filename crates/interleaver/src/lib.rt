@@ -1,9 +1,9 @@
 #![tactic(auto)]
 
-ghost use Rattle.std.specs.Prelude.{◌≡◌, ◌+◌, ◌*◌, ◌<◌, ◌≤◌, length, take, slice_index, slice_set};
+ghost use Rattle.std.specs.Prelude.{◌≡◌, ◌+◌, ◌*◌, ◌%◌, ◌<◌, ◌≤◌, length, take, slice_index, slice_set};
 ghost use Rattle.std.specs.Iterator.{YieldsFirst, item_count};
 ghost use Rattle.stage.specs.Gather.{gathered};
-ghost use Rattle.interleaver.specs.Interleaving.{order, rows, cell, bit_in, left, triple, three_streams, interleaving};
+ghost use Rattle.interleaver.specs.Interleaving.{order, rows, unused, left, row_of, first_in, triple, three_streams, interleaving};
 ghost use Rattle.interleaver.specs.Interleaves.{interleaving_lawful};
 
 use stage::admission::{admit_back, admit_forward};
@@ -32,13 +32,15 @@ struct Matrix {
     ghost fewest: { height ≡ rows bits },
 }
 
-// The bits of its stream, in the order in which they are read.
+// The bits of its stream, in the order in which they are read: `bit` comes next, or the next column where it is past the last bit.
 #[derive(Drop)]
 struct Places {
     matrix: Matrix,
     turn: usize,
-    row: usize,
-    ghost inside: { row ≤ matrix.height },
+    bit: usize,
+    ghost turns: { turn < 32 },
+    ghost column: { (bit + unused matrix.bits) % 32 ≡ slice_index order turn },
+    ghost inside: { row_of matrix.bits bit ≤ rows matrix.bits },
 }
 
 impl Stage for Interleaver {
@@ -147,47 +149,43 @@ impl Matrix {
 
     // Its bits, of which none is read yet.
     fn places(self) -> Places
-        ensures { left result.matrix.bits result.turn result.row ≡ left self.bits 0 0 }
+        ensures { left result.matrix.bits result.turn (row_of result.matrix.bits result.bit) ≡ left self.bits 0 0 }
     {
         Places {
             matrix: self,
             turn: 0,
-            row: 0,
+            bit: self.first_bit(0),
         }
     }
 
-    // The bit in a row of the column that is read at a turn, or none where the cell is unused.
-    fn bit_at(self, turn: usize, row: usize) -> Option<usize>
+    // The first bit of the column that is read at a turn.
+    fn first_bit(self, turn: usize) -> usize
         requires turns { turn < 32 }
-        requires inside { row < self.height }
-        ensures { result ≡ bit_in self.bits (cell (slice_index order turn) row) }
+        ensures { result ≡ first_in self.bits (slice_index order turn) }
     {
         let unused = 32 * self.height - self.bits;
-        let cell = 32 * row + usize::from(ORDER[turn]);
-        cell.checked_sub(unused)
+        (32 + usize::from(ORDER[turn]) - unused) % 32
     }
 }
 
 impl Iterator for Places {
     type Item = usize;
 
-    ghost next_gives = { YieldsFirst (λ s. left s.matrix.bits s.turn s.row) };
+    ghost next_gives = { YieldsFirst (λ s. left s.matrix.bits s.turn (row_of s.matrix.bits s.bit)) };
 
-    ghost remaining = { item_count (λ s. left s.matrix.bits s.turn s.row) };
+    ghost remaining = { item_count (λ s. left s.matrix.bits s.turn (row_of s.matrix.bits s.bit)) };
 
     fn next(&mut self) -> Option<usize> {
-        while self.turn < 32 {
-            if self.row == self.matrix.height {
-                self.turn += 1;
-                self.row = 0;
-                continue;
+        while self.bit >= self.matrix.bits {
+            let turn = self.turn + 1;
+            if turn == 32 {
+                return None;
             }
-            let bit = self.matrix.bit_at(self.turn, self.row);
-            self.row += 1;
-            if let Some(p) = bit {
-                return Some(p);
-            }
+            self.turn = turn;
+            self.bit = self.matrix.first_bit(turn);
         }
-        None
+        let bit = self.bit;
+        self.bit += 32;
+        Some(bit)
     }
 }

@@ -1,8 +1,8 @@
-use Rattle.interleaver.specs.Interleaving.{left}
+use Rattle.interleaver.specs.Interleaving.{left, row_of}
 use Rattle.interleaver.proofs.Columns.{Written}
 use Rattle.interleaver.proofs.Matrix.deinterleave.Given as goal
 
 abbrev pub invariant-loop-k : goal.invariant-loop-k
 invariant-loop-k l =
     (goal.iterator-loop-k).can_next l.k-iterator × (goal.iterator-loop-k).is_finite l.k-iterator
-    × Written l.self.bits l.side l.work (left l.k-iterator.iter.matrix.bits l.k-iterator.iter.turn l.k-iterator.iter.row) l.k-iterator.count
+    × Written l.self.bits l.side l.work (left l.k-iterator.iter.matrix.bits l.k-iterator.iter.turn (row_of l.k-iterator.iter.matrix.bits l.k-iterator.iter.bit)) l.k-iterator.count
