@@ -7,6 +7,9 @@ ghost use Rattle.stage.specs.declared.fault.StageFault.TheVariants.{NotBits};
 use crate::fault::StageFault;
 use crate::setting::{MOST_BITS, Setting};
 
+// How many bytes are tested at once.
+const TOGETHER: usize = 64;
+
 // Test 4: whether the work or side buffer is short.
 pub fn is_short(work: &[u8], side: &[u8]) -> bool
     ensures { result ≡ short work.now side.now }
@@ -34,7 +37,19 @@ pub fn admit(s: Setting, m: usize, work: &[u8], side: &[u8]) -> Result<(), Stage
 fn are_bits(bytes: &[u8]) -> bool
     ensures { result ≡ binary bytes.now }
 {
-    bytes.iter().all(|bit| *bit < 2)
+    for part in bytes.chunks(TOGETHER) {
+        if !are_low(part) {
+            return false;
+        }
+    }
+    true
+}
+
+// Whether no bit but the lowest is set in any of these bytes.
+fn are_low(bytes: &[u8]) -> bool
+    ensures { result ≡ binary bytes.now }
+{
+    bytes.iter().fold(0, |set, byte| set | *byte) < 2
 }
 
 // Test 8: each of the first n bytes, as far as there are so many, is 0 or 1.
