@@ -1,4 +1,5 @@
 // A message at a stage, with the two buffers that the stage's calls take.
+use crate::bits::front;
 use packing::{Hex, unpack};
 use stage::fault::StageFault;
 use stage::setting::{MOST_BITS, Setting};
@@ -64,7 +65,7 @@ impl<'a, S: Stage + Drop> Bench<'a, S> {
     ) -> anyhow::Result<()> {
         match answer {
             Ok(m) => {
-                let bits = self.work.get(..m).unwrap_or(&[]);
+                let bits = front(&self.work, m);
                 println!(rt; "{done}: {m} bits {}", Hex { bits })?;
             }
             Err(fault) => println!(rt; "refused {}: {fault}", fault.number())?,

@@ -2,10 +2,12 @@
 #![tactic(auto)]
 
 mod bench;
+mod bits;
 mod picture;
 mod session;
 
 use crate::bench::Bench;
+use crate::bits::{front, turn};
 use crate::session::show_session;
 use chain::built_in::{BuiltIn, built_in};
 use check_bits::CheckBits;
@@ -50,8 +52,12 @@ fn show_check_bits(rt: &HostRuntime, message: &[u8]) -> anyhow::Result<()> {
     let mut bench = Bench::new(rt, CheckBits::new(), message, SETTING)?;
     let n = bench.bits();
     let m = bench.forward()?;
-    let block = bench.work.get(..n).unwrap_or(&[]);
-    println!(rt; "message: \"123456789\", {n} bits {}", Hex { bits: block })?;
+    println!(rt;
+        "message: \"123456789\", {n} bits {}",
+        Hex {
+            bits: front(&bench.work, n)
+        }
+    )?;
     let bits = bench.work.get(n..m).unwrap_or(&[]);
     println!(rt; "check bits: {}", Hex { bits })?;
     Ok(())
@@ -61,9 +67,7 @@ fn show_check_bits(rt: &HostRuntime, message: &[u8]) -> anyhow::Result<()> {
 fn show_damage(rt: &HostRuntime, bench: &mut Bench<BuiltIn>) -> anyhow::Result<()> {
     for turned in [0usize, 287, 288, 319] {
         bench.forward()?;
-        if let Some(bit) = bench.work.get_mut(turned) {
-            *bit ^= 1;
-        }
+        turn(&mut bench.work, turned);
         println!(rt; "word with bit {turned} turned:")?;
         bench.receive(rt)?;
     }
