@@ -1,5 +1,9 @@
 -- A grant's own tests among those of a call. Assumes nothing.
-use Rattle.std.proofs.Common.{◌≡◌, ℕ, Bool, true, false, cond, not, List, Some, None, Option, arith}
+use Rattle.std.proofs.Common.{◌≡◌, ℕ, Bool, true, false, cond, not, List, [], ◌∷◌, ◌++◌, take, Some, None, Option, arith}
+use Rattle.std.proofs.lemmas.Bool.{not-false}
+use Rattle.std.proofs.lemmas.Bool.Decides.{nat_tests}
+use Rattle.stage.specs.declared.fault.StageFault.TheVariants.{NotBits}
+use Rattle.stage.specs.Bits.{binary}
 use Rattle.stage.specs.Meaning.{Meaning}
 use Rattle.stage.specs.Refusals.{short}
 use Rattle.calendar.specs.declared.fault.GrantFault.{GrantFault}
@@ -7,8 +11,10 @@ use Rattle.calendar.specs.declared.fault.GrantFault.TheVariants.{Rnti, SubframeC
 use Rattle.calendar.specs.declared.grant.Grant.{Grant}
 use Rattle.calendar.specs.Grants.{rnti_allowed, count_allowed, repetitions_allowed, length_allowed, grant_refusal}
 use Rattle.air.specs.declared.fault.EndFault.{EndFault}
-use Rattle.air.specs.declared.fault.EndFault.TheVariants.{Grant as BadGrant}
-use Rattle.air.specs.Refusals.{expect_refusal, offer_refusal}
+use Rattle.air.specs.declared.fault.EndFault.TheVariants.{ShortBuffer, Grant as BadGrant, Chain}
+use Rattle.air.specs.Fits.{fits}
+use Rattle.air.specs.Refusals.{grant_tests, expect_refusal, offer_refusal}
+use Rattle.air.proofs.Ordered.{all_pass}
 
 -- one of them that stops a call does so whatever comes after
 four_stop : (a b c d : Bool) (f : GrantFault) (rest : Option EndFault)
@@ -31,3 +37,12 @@ module _ (m : Meaning) (busy : Bool) (g : Grant) (f : GrantFault) (refused : Som
   unfolding offer_refusal
   offer_stops work side roomy =
       rw roomy (four_stop (rnti_allowed g) (count_allowed g) (repetitions_allowed g) (length_allowed g) f _ refused)
+
+-- the chain fits the grant of an accepted offer, and its block is made of bits
+pub offer_shows : (m : Meaning) (busy : Bool) (g : Grant) (work side : List ℕ) → None ≡ offer_refusal m busy g work side
+    → (fits m g ≡ true) × (binary (take g.length work) ≡ true)
+unfolding offer_refusal
+offer_shows m busy g work side h =
+    let p = all_pass ((short work side, ShortBuffer) ∷ grant_tests m busy g ++ ((not (binary (take g.length work)), Chain NotBits) ∷ [])) h in
+    let q = p.1.1.1.1.1.1 in
+    (grind (arith, nat_tests, q.0, q.1.0), not-false (binary (take g.length work)) q.1.1.0)

@@ -1,12 +1,17 @@
 -- What an end is whether parked or on air, and how a parked one is set. Assumes nothing.
 use Rattle.std.specs.Prelude.{ℕ, ◌≤◌, cond, Ok, Err, Result, nat_lt}
 use Rattle.calendar.specs.declared.time.Time.{Time}
+use Rattle.calendar.specs.Identities.{number_of}
 use Rattle.air.specs.declared.fault.ParkFault.{ParkFault}
 use Rattle.air.specs.declared.fault.ParkFault.TheVariants.{Identity, Frame, Subframe}
+use Rattle.air.specs.declared.parked.Parked.{Parked}
 
 pub record End : Type 0 where
   pub identity : ℕ
   pub time : Time
+
+abbrev pub end_of : Parked → End
+end_of p = record { identity = number_of p.identity; time = p.time }
 
 -- what every end has: a known identity, and a time of the calendar
 pub record InRange (e : End) : Type 0 where

@@ -6,12 +6,13 @@ use Rattle.calendar.specs.declared.grant.Grant.{Grant}
 use Rattle.calendar.specs.Grants.{part_bits}
 use Rattle.calendar.specs.Rounds.{copies, first_copy}
 use Rattle.calendar.specs.Times.{closed}
-use Rattle.calendar.specs.Courses.{Going}
+use Rattle.calendar.specs.Courses.{Going, going_of}
 use Rattle.air.specs.declared.terminal.Terminal.{Terminal}
 use Rattle.air.specs.declared.terminal.slot.Slot.{Slot}
 use Rattle.air.specs.declared.terminal.slot.Slot.TheVariants.{Closed, Idle, FirstCopy, Repeat}
 use Rattle.air.specs.declared.answers.Outcome.{Outcome}
-use Rattle.air.specs.Ends.{End}
+use Rattle.air.specs.Ends.{End, end_of}
+use Rattle.air.specs.Fits.{covered}
 use Rattle.air.specs.Terminals.{Awaiting, TerminalState, hearing, with_awaited}
 
 -- how many parts have had their first copy once k open subframes of a grant are gone
@@ -22,12 +23,17 @@ parts_read g k = min g.subframes ((k + (copies g - 1)) / copies g)
 abbrev pub awaiting_of : List ℕ → Going → Awaiting
 awaiting_of table g = record { going = g; read = take (part_bits * parts_read g.grant g.gone) table }
 
-abbrev pub terminal_of : {S P : Type 0} {g : _} → (S → Meaning) → Terminal S P g → TerminalState
+-- an awaited grant counts where the chain covers it: no call leaves another in memory
+abbrev pub covered_by : Meaning → Option Going → Option Going
+covered_by m None = None
+covered_by m (Some g) = cond (covered m g.grant) (Some g) None
+
+abbrev pub terminal_of : {S P : Type 0} → (S → Meaning) → Terminal S P → TerminalState
 terminal_of meaning t = record {
-  identity = t.end.identity;
-  time = t.end.time;
+  identity = (end_of t.end).identity;
+  time = (end_of t.end).time;
   chain = meaning t.chain;
-  awaited = option_map (awaiting_of t.word) t.awaited;
+  awaited = option_map (awaiting_of t.word) (covered_by (meaning t.chain) (option_map going_of t.awaited));
 }
 
 -- an end put on air as a terminal awaits nothing

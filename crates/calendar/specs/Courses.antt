@@ -1,5 +1,6 @@
 -- A grant under way. Assumes nothing.
 use Rattle.std.specs.Prelude.{ℕ, ◌+◌, cond, Some, None, Option, ◌==◌}
+use Rattle.calendar.specs.declared.course.Course.{Course}
 use Rattle.calendar.specs.declared.grant.Grant.{Grant}
 use Rattle.calendar.specs.declared.time.Time.{Time}
 use Rattle.calendar.specs.Rounds.{owed}
@@ -9,6 +10,9 @@ pub record Going : Type 0 where
   pub grant : Grant
   pub start : Time
   pub gone : ℕ
+
+abbrev pub going_of : Course → Going
+going_of c = record { grant = c.grant; start = c.start; gone = c.gone }
 
 abbrev pub begun : Grant → Time → Going
 begun g t = record { grant = g; start = t; gone = 0 }

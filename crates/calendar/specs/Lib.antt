@@ -4,5 +4,4 @@ pub mod Grants
 pub mod Words
 pub mod Rounds
 pub mod Courses
-pub mod Kept
 pub mod Calendar

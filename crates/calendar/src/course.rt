@@ -1,6 +1,10 @@
+ghost use Rattle.std.specs.Prelude.{◌≡◌, ◌<◌, true};
+ghost use Rattle.calendar.specs.Grants.{rnti_allowed, count_allowed, repetitions_allowed, length_allowed};
+ghost use Rattle.calendar.specs.Rounds.{whole, round_first};
+ghost use Rattle.calendar.specs.Times.{open_at};
+
 use crate::grant::Grant;
 use crate::time::Time;
-use std::marker::Model;
 
 // A grant under way: when it started, and how many of its open subframes are gone.
 // Kept beside them: its next open subframe, and the first one of the round under way.
@@ -11,22 +15,13 @@ pub struct Course {
     gone: u32,
     next: Time,
     first: Time,
-}
-
-impl Model for Course {
-    ghost use Rattle.calendar.specs.Courses.{Going};
-
-    ghost Value = { Going };
-
-    ghost use Rattle.calendar.specs.Kept.{Kept, going, kept, kept_again};
-
-    ghost view = { going };
-
-    ghost invariant = { Kept };
-
-    ghost inverse = { kept };
-
-    ghost inverse_ok = { kept_again };
+    ghost called: { rnti_allowed grant ≡ true },
+    ghost counted: { count_allowed grant ≡ true },
+    ghost repeated: { repetitions_allowed grant ≡ true },
+    ghost sized: { length_allowed grant ≡ true },
+    ghost more: { gone < whole grant },
+    ghost upcoming: { next ≡ open_at start gone },
+    ghost opening: { first ≡ open_at start (round_first grant gone) },
 }
 
 mod calls;

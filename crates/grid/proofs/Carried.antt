@@ -10,7 +10,7 @@ use Rattle.grid.specs.Pairs.{points, bits_of}
 use Rattle.grid.specs.References.{reference_bits}
 use Rattle.grid.specs.Grids.{vacant, marked, carrying, aired_bits, in_320}
 use Rattle.grid.specs.Laws.{ReferencesHold, MeetsRules}
-use Rattle.grid.proofs.Bits.{length-points, bits_of_points, length_bits}
+use Rattle.grid.proofs.Bits.{length-points, bits_of_points, length_bits, bits_small}
 use Rattle.grid.proofs.Overwrites.{overwritten-all}
 use Rattle.grid.proofs.Walks.{length-laid, length_taken, taken-laid, walk_law}
 use Rattle.grid.proofs.Elements.{data_elements, reference_elements, Eight, Numbered, eight_with, references_are}
@@ -43,6 +43,11 @@ module _ {X : Type 0} (K : Kind X) where
   length_aired identity grid bits h e =
       length_bits K (taken (among Data identity) 0 grid) bits e
       ∙ ap (λ n. 2 * n) (length_taken (among Data identity) 0 grid ∙ ap (count (among Data identity) 0) h ∙ data_elements identity)
+
+  -- each of them 0 or 1
+  pub aired_small : (identity : ℕ) (grid : List X) (bits : List ℕ) (k : ℕ) → aired_bits K identity grid ≡ Some bits → get_or bits k 0 < 2
+  unfolding aired_bits
+  aired_small identity grid bits k = bits_small K (taken (among Data identity) 0 grid) bits k
 
   -- what is read of a grid of 168 points is all that it airs
   pub aired_whole : (identity : ℕ) (grid : List X) → length grid ≡ 168 → option_map in_320 (aired_bits K identity grid) ≡ aired_bits K identity grid

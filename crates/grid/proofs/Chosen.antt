@@ -1,5 +1,5 @@
 -- The walk over the chosen places, one by one: things put on them, and taken from them.
-use Rattle.std.proofs.Common.{◌≡◌, ℕ, zero, suc, ◌+◌, ◌-◌, ◌%◌, ◌<◌, ◌≤◌, Bool, true, false, cond, List, [], ◌∷◌, ◌++◌, length, get_or, set, Some, None, Option, sym, refl, ap, ◌∙◌, subst, add-one, arith, append_assoc, length-append}
+use Rattle.std.proofs.Common.{◌≡◌, ℕ, zero, suc, ◌+◌, ◌-◌, ◌%◌, ◌<◌, ◌≤◌, Bool, true, false, cond, List, [], ◌∷◌, ◌++◌, length, get_or, set, Some, None, Option, sym, refl, ap, ap₂, ◌∙◌, subst, add-one, arith, append_assoc, length-append}
 use Rattle.std.specs.List.{find, filter_map, cons_option, slice_get, fold, zip, range_with_len}
 use Rattle.std.specs.Option.{MatchOption}
 use Rattle.std.specs.Iterator.{AlwaysYields}
@@ -49,9 +49,9 @@ pub below_more : {p : ℕ} {ps qs : List ℕ} (n : ℕ) → qs ≡ p ∷ ps → 
 below_more n e h = subst (Below n) e h
 
 -- the next place of a walk comes first, and then those after it
-pub next_first : (walk : Places) (r : Option ℕ) → ((identity : ℕ) → walk.shift ≡ identity % 6 → r ≡ next_place (among walk.what identity) walk.from (walk.end - walk.from))
-    → MatchOption r (places_left walk ≡ []) (λ p. places_left walk ≡ p ∷ places (among walk.what walk.shift) (p + 1) (walk.end - (p + 1)))
-next_first walk r h = rw (h walk.shift (omega (arith, walk.small))) (first (among walk.what walk.shift) (walk.end - walk.from) walk.from walk.end refl)
+pub next_first : (walk : Places) (r : Option ℕ) → ((identity : ℕ) → walk.shift.value ≡ identity % 6 → r ≡ next_place (among walk.what identity) walk.from (walk.end - walk.from))
+    → MatchOption r (places_left walk ≡ []) (λ p. places_left walk ≡ p ∷ places (among walk.what walk.shift.value) (p + 1) (walk.end - (p + 1)))
+next_first walk r h = rw (h walk.shift.value (omega (arith, walk.shift.small))) (first (among walk.what walk.shift.value) (walk.end - walk.from) walk.from walk.end refl)
 
 module _ {X : Type 0} where
   -- things put on places, one after another
@@ -68,6 +68,14 @@ module _ {X : Type 0} where
   put_none : (ps : List ℕ) (xs : List X) → put_over xs ps [] ≡ xs
   put_none [] xs = refl
   put_none (p ∷ ps) xs = refl
+
+  -- the next thing goes to the next place
+  pub put_next : (xs zs : List X) (ps qs : List ℕ) (ts us : List X) (p : ℕ) (t : X) → qs ≡ p ∷ ps → us ≡ t ∷ ts → put_over xs qs us ≡ zs → put_over (set xs p t) ps ts ≡ zs
+  put_next xs zs ps qs ts us p t e f h = sym (ap₂ (put_over xs) e f) ∙ h
+
+  -- no thing is left
+  pub put_done : (xs zs : List X) (qs : List ℕ) (us : List X) → us ≡ [] → put_over xs qs us ≡ zs → xs ≡ zs
+  put_done xs zs qs us e h = sym (ap (put_over xs qs) e ∙ put_none qs xs) ∙ h
 
   module _ (d : ℕ → Bool) where
     laid_after : (xs ys ts : List X) (i : ℕ) → i ≡ length xs → xs ++ laid d i ys ts ≡ put_over (xs ++ ys) (places d i (length ys)) ts

@@ -1,4 +1,4 @@
--- The chosen elements, read one by one over the front of a buffer, or as pairs of bits.
+-- The bits of the chosen elements, read pair by pair over the front of a buffer.
 use Rattle.std.proofs.Common.{◌≡◌, ℕ, ◌+◌, ◌<◌, ◌≤◌, Bool, List, [], ◌∷◌, length, get_or, set, Some, None, Option, sym, refl, ap, ◌∙◌, arith, length-set}
 use Rattle.std.specs.Option.{option_map}
 use Rattle.point.specs.Kinds.{Kind}
@@ -18,9 +18,6 @@ two_more n a b ys bs h =
 
 -- one turn: x stands on the place p, which is the next
 module _ {X : Type 0} (xs : List X) (p : ℕ) (ps qs : List ℕ) (e : qs ≡ p ∷ ps) (x : X) (h : Below (length xs) qs) (is : x ≡ get_or xs p x) where
-  pub fetch_more : (n : ℕ) (ys zs : List X) → n < length ys → over_from n ys (standing xs qs) ≡ zs → over_from (n + 1) (set ys n x) (standing xs ps) ≡ zs
-  fetch_more n ys zs l r = sym (over_more n x ys (standing xs ps) l) ∙ sym (ap (over_from n ys) (standing_first xs p ps qs x e h is)) ∙ r
-
   -- q is its pair, the n bits before it stand in ys, and the whole comes to zs
   module _ (K : Kind X) (q : Option (Bool × Bool)) (pair : q ≡ K.pair x) (n : ℕ) (ys : List ℕ) (zs : Option (List ℕ))
       (inv : option_map (over_from n ys) (bits_of K (standing xs qs)) ≡ zs) where
@@ -33,13 +30,12 @@ module _ {X : Type 0} (xs : List X) (p : ℕ) (ps qs : List ℕ) (e : qs ≡ p �
     step a b f is g =
         sym (ap (option_map (over_from n ys)) (next_bits ∙ ap (λ o. joined o (bits_of K (standing xs ps))) is) ∙ mapped_pair f (over_from n ys) a b (bits_of K (standing xs ps)) g) ∙ inv
 
-    pub read_more : (a b : Bool) (m : ℕ) → q ≡ Some (a, b) → m ≡ n + 2 → n + 1 < length ys
-        → option_map (over_from m (set (set ys n (bit a)) (n + 1) (bit b))) (bits_of K (standing xs ps)) ≡ zs
-    read_more a b m f k room = rw k (step a b _ f (λ bs. two_more n (bit a) (bit b) ys bs room))
+    pub read_more : (a b : Bool) → q ≡ Some (a, b) → n + 1 < length ys → option_map (over_from (n + 2) (set (set ys n (bit a)) (n + 1) (bit b))) (bits_of K (standing xs ps)) ≡ zs
+    read_more a b f room = step a b _ f (λ bs. two_more n (bit a) (bit b) ys bs room)
 
     -- the buffer is full
-    pub read_full : (a b : Bool) (m : ℕ) → q ≡ Some (a, b) → m ≡ n + 2 → length ys ≤ n → option_map (over_from m ys) (bits_of K (standing xs ps)) ≡ zs
-    read_full a b m f k full = step a b _ f (λ bs. over_all n ys (bit a ∷ bit b ∷ bs) full ∙ sym (over_all m ys bs (omega arith)))
+    pub read_full : (a b : Bool) → q ≡ Some (a, b) → length ys ≤ n → option_map (over_from n ys) (bits_of K (standing xs ps)) ≡ zs
+    read_full a b f full = step a b _ f (λ bs. over_all n ys (bit a ∷ bit b ∷ bs) full ∙ sym (over_all n ys bs full))
 
     -- it is no pair
     pub read_none : q ≡ None → None ≡ zs

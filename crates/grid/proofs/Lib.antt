@@ -1,3 +1,4 @@
+pub mod Next
 pub mod Chosen
 pub mod Overwrites
 pub mod Walks

@@ -1,5 +1,5 @@
 -- A list that is overwritten from its front on.
-use Rattle.std.proofs.Common.{◌≡◌, ℕ, zero, suc, ◌+◌, ◌<◌, ◌≤◌, List, [], ◌∷◌, ◌++◌, length, take, drop, set, refl, ap, arith}
+use Rattle.std.proofs.Common.{◌≡◌, ℕ, zero, suc, ◌+◌, ◌<◌, ◌≤◌, List, [], ◌∷◌, ◌++◌, length, take, drop, set, sym, refl, ap, ◌∙◌, arith}
 use Rattle.grid.specs.Walk.{overwritten}
 
 module _ {X : Type 0} where
@@ -29,6 +29,10 @@ module _ {X : Type 0} where
   over_more zero t (y ∷ ys) ts h = refl
   over_more (suc n) t (y ∷ ys) ts h = let e : suc n + 1 ≡ suc (n + 1) = omega arith in rw e (ap (λ zs. y ∷ zs) (over_more n t ys ts (omega arith)))
 
+  -- the same as a turn of a loop that comes to zs
+  pub fetch_more : (n : ℕ) (t : X) (ys us ts zs : List X) → n < length ys → us ≡ t ∷ ts → over_from n ys us ≡ zs → over_from (n + 1) (set ys n t) ts ≡ zs
+  fetch_more n t ys us ts zs h e r = sym (over_more n t ys ts h) ∙ ap (over_from n ys) (sym e) ∙ r
+
   -- where there is just room for all
   pub overwritten-all : (ys ts : List X) → length ts ≡ length ys → overwritten ys ts ≡ ts
   unfolding overwritten
@@ -36,3 +40,9 @@ module _ {X : Type 0} where
   overwritten-all [] (t ∷ ts) h = absurd (omega arith)
   overwritten-all (y ∷ ys) [] h = absurd (omega arith)
   overwritten-all (y ∷ ys) (t ∷ ts) h = ap (λ zs. t ∷ zs) (overwritten-all ys ts (omega arith))
+
+  pub length-overwritten : (ys ts : List X) → length (overwritten ys ts) ≡ length ys
+  unfolding overwritten
+  length-overwritten [] ts = refl
+  length-overwritten (y ∷ ys) [] = refl
+  length-overwritten (y ∷ ys) (t ∷ ts) = ap suc (length-overwritten ys ts)

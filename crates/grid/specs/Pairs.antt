@@ -1,5 +1,5 @@
 -- Bits as points, two bits to a point. A bit is the number 0 or 1. Assumes nothing.
-use Rattle.std.specs.Prelude.{ℕ, Bool, true, false, List, [], ◌∷◌, Some, None, Option, ◌==◌}
+use Rattle.std.specs.Prelude.{ℕ, Bool, true, false, List, [], ◌∷◌, map, slice_index, Some, None, Option, ◌==◌}
 use Rattle.point.specs.Kinds.{Kind}
 
 -- whether a bit is 1
@@ -16,6 +16,10 @@ unfoldable pub points : {X : Type 0} → Kind X → List ℕ → List X
 points K [] = []
 points K (a ∷ []) = []
 points K (a ∷ b ∷ bits) = K.point (is_one a) (is_one b) ∷ points K bits
+
+-- the point of each pair
+unfoldable pub pair_points : {X : Type 0} → Kind X → List (List ℕ) → List X
+pair_points K pairs = map (λ pair. K.point (is_one (slice_index pair 0)) (is_one (slice_index pair 1))) pairs
 
 -- a pair in front of bits, where both are there
 abbrev pub joined : Option (Bool × Bool) → Option (List ℕ) → Option (List ℕ)

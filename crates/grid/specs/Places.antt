@@ -6,4 +6,4 @@ use Rattle.grid.specs.Purposes.{among}
 
 -- the places that a walk still has before it; the remainder of an identity stands for it
 abbrev pub places_left : Places → List ℕ
-places_left walk = places (among walk.what walk.shift) walk.from (walk.end - walk.from)
+places_left walk = places (among walk.what walk.shift.value) walk.from (walk.end - walk.from)

@@ -12,15 +12,19 @@ pub(crate) struct Places {
     what: Purpose,
     from: usize,
     end: usize,
-    ghost small: { shift < 6 },
 }
 
 // The next place of one purpose, from `from` on and below `end`.
 pub fn next_place(shift: Shift, what: Purpose, from: usize, end: usize) -> Option<usize>
-    ensures place { (identity : ℕ) → shift ≡ identity % 6 → result ≡ next_place (among what identity) from (end - from) }
+    ensures place { (identity : ℕ) → shift.value ≡ identity % 6 → result ≡ next_place (among what identity) from (end - from) }
     ensures within { IfSome result (λ place. (from ≤ place) × (place < end)) }
 {
-    (from..end).find(|place| shift.purpose(*place) == what)
+    for place in from..end {
+        if shift.purpose(place) == what {
+            return Some(place);
+        }
+    }
+    None
 }
 
 mod walk;

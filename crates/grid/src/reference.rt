@@ -1,4 +1,5 @@
 ghost use Rattle.std.specs.Prelude.{◌≡◌, ◌≤◌};
+ghost use Rattle.calendar.specs.Identities.{number_of};
 ghost use Rattle.grid.specs.References.{reference_seed, symbol_bits, reference_bits};
 
 use calendar::identity::Identity;
@@ -7,7 +8,7 @@ use gold::Gold;
 // The 16 bits of a subframe's reference elements, in rising place.
 #[tactic(auto, unfolding(crate::specs::References::reference_bits))]
 pub fn reference_bits(identity: Identity, subframe: u8) -> [u8; 16]
-    ensures { result ≡ reference_bits identity subframe }
+    ensures { result ≡ reference_bits (number_of identity) subframe }
 {
     let slot = 2 * subframe as u32;
     let symbols = [
@@ -25,7 +26,7 @@ pub fn reference_bits(identity: Identity, subframe: u8) -> [u8; 16]
 fn reference_seed(identity: Identity, slot: u32, symbol: u32) -> u32
     requires slot { slot ≤ 511 }
     requires symbol { symbol ≤ 6 }
-    ensures { result ≡ reference_seed identity slot symbol }
+    ensures { result ≡ reference_seed (number_of identity) slot symbol }
 {
     let factor = 7 * (slot + 1) + symbol + 1;
     let odd = 2 * identity.value() as u32 + 1;

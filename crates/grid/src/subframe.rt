@@ -1,8 +1,9 @@
 ghost use Rattle.std.specs.Prelude.{◌≡◌, length, slice_index};
 ghost use Rattle.std.specs.Option.{option_map};
+ghost use Rattle.calendar.specs.Identities.{number_of};
 ghost use Rattle.grid.specs.Walk.{laid};
 ghost use Rattle.grid.specs.Purposes.{among};
-ghost use Rattle.grid.specs.Pairs.{is_one, points};
+ghost use Rattle.grid.specs.Pairs.{is_one, points, pair_points};
 ghost use Rattle.grid.specs.Grids.{vacant, marked, carrying, aired_bits, in_320};
 ghost use Rattle.grid.specs.Laws.{MeetsRules};
 
@@ -17,13 +18,14 @@ use point::Point;
 pub fn write_closed<P: Point>(grid: &mut [P])
     ensures { grid.new ≡ vacant P.Point.kind (length grid.old) }
 {
-    grid.fill_with(|| P::blank());
+    let blank = P::blank();
+    grid.fill_with(|| blank);
 }
 
 // Writes the grid of an open subframe without data: the reference points, and blanks.
 #[tactic(auto, unfolding(crate::specs::Grids::marked))]
 pub fn write_idle<P: Point>(grid: &mut [P], identity: Identity, subframe: u8)
-    ensures { grid.new ≡ marked P.Point.kind (length grid.old) identity subframe }
+    ensures { grid.new ≡ marked P.Point.kind (length grid.old) (number_of identity) subframe }
 {
     write_closed(grid);
     let bits = reference_bits(identity, subframe);
@@ -33,7 +35,7 @@ pub fn write_idle<P: Point>(grid: &mut [P], identity: Identity, subframe: u8)
 // Writes the grid of a data subframe: the reference points, and the bits on the data elements.
 #[tactic(auto, using(crate::proofs::Carried::meets_rules), unfolding(crate::specs::Grids::carrying))]
 pub fn write_data<P: Point>(grid: &mut [P], identity: Identity, subframe: u8, bits: &[u8])
-    ensures after { grid.new ≡ carrying P.Point.kind (length grid.old) identity subframe bits.now }
+    ensures after { grid.new ≡ carrying P.Point.kind (length grid.old) (number_of identity) subframe bits.now }
     ensures law { MeetsRules P.Point.kind }
 {
     write_idle(grid, identity, subframe);
@@ -42,25 +44,36 @@ pub fn write_data<P: Point>(grid: &mut [P], identity: Identity, subframe: u8, bi
 
 // Reads the bits of the data elements, 320 where the grid has 168 points. None where one of them is no pair.
 pub fn read_data<P: Point>(grid: &[P], identity: Identity) -> Option<[u8; 320]>
-    ensures value { result ≡ option_map in_320 (aired_bits P.Point.kind identity grid.now) }
-    ensures whole { length grid.now ≡ 168 → result ≡ aired_bits P.Point.kind identity grid.now }
+    ensures value { result ≡ option_map in_320 (aired_bits P.Point.kind (number_of identity) grid.now) }
+    ensures whole { length grid.now ≡ 168 → result ≡ aired_bits P.Point.kind (number_of identity) grid.now }
 {
     let mut bits = [0; 320];
-    for (i, place) in Places::of(identity, Purpose::Data, grid.len()).enumerate() {
-        let (first, second) = grid[place].pair()?;
-        if i < 160 {
-            bits[2 * i] = first as u8;
-            bits[2 * i + 1] = second as u8;
+    let mut n = 0;
+    for place in Places::of(identity, Purpose::Data, grid.len()) {
+        let Some((first, second)) = grid[place].pair() else {
+            return None;
+        };
+        if n < 320 {
+            bits[n] = first as u8;
+            bits[n + 1] = second as u8;
+            n += 2;
         }
     }
     Some(bits)
 }
 
 // Puts each pair of bits as its point on the elements of one purpose in rising place, as far as they go.
+#[tactic(auto, using(crate::proofs::Bits::points_of_chunks))]
 fn put_pairs<P: Point>(grid: &mut [P], identity: Identity, what: Purpose, bits: &[u8])
-    ensures { grid.new ≡ laid (among what identity) 0 grid.old (points P.Point.kind bits.now) }
+    ensures { grid.new ≡ laid (among what (number_of identity)) 0 grid.old (points P.Point.kind bits.now) }
 {
     let (pairs, _) = bits.as_chunks::<2>();
+    put_points(grid, identity, what, pairs);
+}
+
+fn put_points<P: Point>(grid: &mut [P], identity: Identity, what: Purpose, pairs: &[[u8; 2]])
+    ensures { grid.new ≡ laid (among what (number_of identity)) 0 grid.old (pair_points P.Point.kind pairs.now) }
+{
     lay(
         grid,
         identity,

@@ -7,7 +7,7 @@ use Rattle.air.specs.TerminalViews.{terminal_of}
 use Rattle.link.specs.declared.driver.Link.{Link}
 use Rattle.link.specs.Following.{LinkState, Buffers}
 
-abbrev pub link_of : {S P : Type 0} {g : _} → (S → Meaning) → Link S P g → LinkState
+abbrev pub link_of : {S P : Type 0} → (S → Meaning) → Link S P → LinkState
 link_of meaning l = record { cell = cell_of meaning l.cell; terminal = terminal_of meaning l.terminal }
 
 -- a terminal hears in a call's buffers, and in the link's block buffer

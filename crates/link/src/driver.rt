@@ -2,11 +2,10 @@ use air::answers::{Airing, Outcome};
 use air::cell::Cell;
 use air::fault::EndFault;
 use air::terminal::Terminal;
-use stage::stages::Stage;
 
 // A cell, the terminal that follows it, and the block buffer in which that hears.
 #[derive(Drop)]
-pub struct Link<S: Stage, P> {
+pub struct Link<S, P> {
     cell: Cell<S, P>,
     terminal: Terminal<S, P>,
     block: [u8; 2536],

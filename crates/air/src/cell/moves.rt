@@ -1,5 +1,6 @@
 ghost use Rattle.std.specs.Prelude.{◌≡◌, None};
 ghost use Rattle.air.specs.CellViews.{cell_of};
+ghost use Rattle.air.specs.Ends.{end_of};
 
 use crate::cell::Cell;
 use crate::parked::Parked;
@@ -11,7 +12,7 @@ use std::marker::PhantomData;
 impl Parked {
     // Puts the end on air as a cell, with nothing pending.
     pub fn cell<S: Stage, P: Point>(self, chain: S) -> Cell<S, P>
-        ensures { cell_of S.Stage.meaning result ≡ record { identity = self.identity; time = self.time; chain = S.Stage.meaning chain; pending = None } }
+        ensures { cell_of S.Stage.meaning result ≡ record { identity = (end_of self).identity; time = (end_of self).time; chain = S.Stage.meaning chain; pending = None } }
     {
         Cell {
             end: self,
@@ -35,7 +36,7 @@ impl<S: Stage, P: Point> Cell<S, P> {
 impl<S: Stage + Drop, P: Point> Cell<S, P> {
     // Takes the cell off air, and drops any grant.
     pub fn stop(self) -> Parked
-        ensures { result ≡ record { identity = (cell_of S.Stage.meaning self).identity; time = (cell_of S.Stage.meaning self).time } }
+        ensures { end_of result ≡ record { identity = (cell_of S.Stage.meaning self).identity; time = (cell_of S.Stage.meaning self).time } }
     {
         let Cell { end, .. } = self;
         end

@@ -1,10 +1,9 @@
 ghost use Rattle.std.specs.Prelude.{◌≡◌, ◌≤◌, true, length, take, is_some, IfOk, OnErr, Some};
 ghost use Rattle.std.specs.Result.{result_err};
 ghost use Rattle.stage.specs.Bits.{binary};
-ghost use Rattle.calendar.specs.Courses.{begun};
+ghost use Rattle.calendar.specs.Courses.{going_of, begun};
 ghost use Rattle.air.specs.Cells.{offered};
 ghost use Rattle.air.specs.CellViews.{cell_of};
-ghost use Rattle.air.specs.Fits.{fits};
 ghost use Rattle.air.specs.Refusals.{offer_refusal, settled, cleared};
 
 use crate::asking::{asking, word_length};
@@ -38,11 +37,11 @@ impl<S: Stage, P: Point> Cell<S, P> {
     #[tactic(auto, unfolding(crate::specs::Refusals::offer_refusal))]
     fn admit(&self, grant: Grant, work: &[u8], side: &[u8]) -> Result<Course, EndFault>
         ensures refusal { result_err result ≡ offer_refusal (cell_of S.Stage.meaning self.now).chain (is_some (cell_of S.Stage.meaning self.now).pending) grant work.now side.now }
-        ensures accepted { IfOk result (λ c. c ≡ begun grant self.now.end.time) }
+        ensures accepted { IfOk result (λ c. going_of c ≡ begun grant (cell_of S.Stage.meaning self.now).time) }
     {
         check_buffers(work, side)?;
         let course = Course::begin(grant, self.end.time())?;
-        check_free(self.pending.is_some())?;
+        check_free(self.current().is_some())?;
         let size = word_length(&self.chain, course);
         check_word(size, course.output())?;
         admit_forward(course.length(), asking(course), size, work, side)?;
@@ -51,13 +50,12 @@ impl<S: Stage, P: Point> Cell<S, P> {
 
     // Keeps a course, and its block from the first bytes of the work buffer.
     fn note(&mut self, course: Course, work: &[u8])
-        requires bits { binary (take course.grant.length work.now) ≡ true }
-        requires fits { fits (S.Stage.meaning self.old.chain) course.grant ≡ true }
+        requires bits { binary (take (going_of course).grant.length work.now) ≡ true }
         requires roomy { 2536 ≤ length work.now }
         ensures end { self.new.end ≡ self.old.end }
         ensures chain { self.new.chain ≡ self.old.chain }
         ensures pending { self.new.pending ≡ Some course }
-        ensures block { take course.grant.length self.new.block ≡ take course.grant.length work.now }
+        ensures block { take (going_of course).grant.length self.new.block ≡ take (going_of course).grant.length work.now }
     {
         copy_front(&mut self.block, work, course.length());
         self.pending = Some(course);

@@ -1,11 +1,14 @@
 ghost use Rattle.std.specs.Prelude.{◌≡◌, ◌+◌, ◌*◌, ◌≤◌, false, length, take, OnErr, Some, Ok};
+ghost use Rattle.std.specs.Option.{option_map};
 ghost use Rattle.std.specs.Result.{result_err};
 ghost use Rattle.stage.specs.Refusals.{short};
+ghost use Rattle.calendar.specs.Courses.{going_of};
 ghost use Rattle.calendar.specs.Grants.{part_bits, output};
 ghost use Rattle.calendar.specs.Rounds.{owed};
 ghost use Rattle.air.specs.declared.answers.Airing.TheVariants.{Data};
 ghost use Rattle.air.specs.Cells.{airs, stepped, with_pending, round_word, part_due};
-ghost use Rattle.air.specs.CellViews.{sending_of, cell_of};
+ghost use Rattle.air.specs.CellViews.{fitting, sending_of, cell_of};
+ghost use Rattle.air.specs.Ends.{end_of};
 ghost use Rattle.air.specs.Refusals.{subframe_refusal, settled, cleared, answered};
 
 use crate::answers::Airing;
@@ -65,7 +68,7 @@ impl<S: Stage, P: Point> Cell<S, P> {
             write_closed(grid);
             return Ok(Airing::Closed);
         }
-        let Some(course) = self.pending else {
+        let Some(course) = self.current() else {
             write_idle(grid, identity, time.subframe);
             return Ok(Airing::Idle);
         };
@@ -78,10 +81,10 @@ impl<S: Stage, P: Point> Cell<S, P> {
 
     // Puts the word of the round under way at the start of the work buffer.
     fn encode(&self, course: Course, work: &mut [u8], side: &mut [u8]) -> Result<usize, StageFault>
-        requires pending { self.now.pending ≡ Some course }
+        requires pending { Some (going_of course) ≡ fitting (S.Stage.meaning self.now.chain) (option_map going_of self.now.pending) }
         requires roomy { short work.old side.old ≡ false }
-        ensures answer { result ≡ Ok (output course.grant) }
-        ensures word { take (output course.grant) work.new ≡ round_word self.now.end.identity (S.Stage.meaning self.now.chain) (sending_of self.now.block course) }
+        ensures answer { result ≡ Ok (output (going_of course).grant) }
+        ensures word { take (output (going_of course).grant) work.new ≡ round_word (end_of self.now.end).identity (S.Stage.meaning self.now.chain) (sending_of self.now.block (going_of course)) }
     {
         let n = course.length();
         copy_front(work, &self.block, n);
@@ -92,7 +95,7 @@ impl<S: Stage, P: Point> Cell<S, P> {
 
 // What is said of the course's next open subframe.
 fn data(course: Course) -> Airing
-    ensures { result ≡ Data (part_due course) (owed course.grant course.gone) }
+    ensures { result ≡ Data (part_due (going_of course)) (owed (going_of course).grant (going_of course).gone) }
 {
     Airing::Data {
         part: course.part(),
@@ -102,8 +105,8 @@ fn data(course: Course) -> Airing
 
 // Where in the word the part begins that goes out in the course's next open subframe.
 fn part_start(course: Course) -> usize
-    ensures value { result ≡ part_bits * part_due course }
-    ensures within { result + part_bits ≤ output course.grant }
+    ensures value { result ≡ part_bits * part_due (going_of course) }
+    ensures within { result + part_bits ≤ output (going_of course).grant }
     ensures most { result ≤ part_bits * 9 }
 {
     PART_BITS * course.part() as usize

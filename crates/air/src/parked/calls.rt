@@ -1,6 +1,6 @@
 ghost use Rattle.std.specs.Prelude.{◌≡◌, OnErr};
 ghost use Rattle.calendar.specs.Times.{after};
-ghost use Rattle.air.specs.Ends.{InRange, fresh, with_identity, with_time};
+ghost use Rattle.air.specs.Ends.{end_of, InRange, fresh, with_identity, with_time};
 
 use crate::fault::ParkFault;
 use crate::parked::Parked;
@@ -10,7 +10,7 @@ use calendar::time::Time;
 impl Parked {
     // A new end has identity, frame and subframe 0.
     pub fn new() -> Parked
-        ensures { result ≡ fresh }
+        ensures { end_of result ≡ fresh }
     {
         Parked {
             identity: Identity::zero(),
@@ -23,7 +23,7 @@ impl Parked {
 
     // Sets the identity. Test 1.
     pub fn set_identity(&mut self, identity: u32) -> Result<(), ParkFault>
-        ensures answer { (result, self.new) ≡ with_identity self.old identity }
+        ensures answer { (result, end_of self.new) ≡ with_identity (end_of self.old) identity }
         ensures untouched { OnErr result (self.new ≡ self.old) }
     {
         self.identity = Identity::new(identity).ok_or(ParkFault::Identity)?;
@@ -32,7 +32,7 @@ impl Parked {
 
     // Sets frame and subframe. Tests 2 and 3.
     pub fn set_time(&mut self, frame: u32, subframe: u32) -> Result<(), ParkFault>
-        ensures answer { (result, self.new) ≡ with_time self.old frame subframe }
+        ensures answer { (result, end_of self.new) ≡ with_time (end_of self.old) frame subframe }
         ensures untouched { OnErr result (self.new ≡ self.old) }
     {
         if frame > 1023 {
@@ -49,7 +49,7 @@ impl Parked {
     }
 
     pub fn identity(&self) -> u16
-        ensures { result ≡ self.now.identity }
+        ensures { result ≡ (end_of self.now).identity }
     {
         self.identity.value()
     }
@@ -62,15 +62,15 @@ impl Parked {
     }
 
     pub fn time(&self) -> Time
-        ensures { result ≡ self.now.time }
+        ensures { result ≡ (end_of self.now).time }
     {
         self.time
     }
 
     // Another parked end with this one's identity and time.
     pub fn twin(&self) -> Parked
-        ensures same { result ≡ self.now }
-        ensures ranged { InRange self.now }
+        ensures same { end_of result ≡ end_of self.now }
+        ensures ranged { InRange (end_of self.now) }
     {
         Parked {
             identity: self.identity,
@@ -80,7 +80,7 @@ impl Parked {
 
     // The clock goes one subframe on.
     pub(crate) fn step(&mut self)
-        ensures { self.new ≡ record { identity = self.old.identity; time = after self.old.time } }
+        ensures { end_of self.new ≡ record { identity = (end_of self.old).identity; time = after (end_of self.old).time } }
     {
         self.time = self.time.step();
     }

@@ -1,6 +1,7 @@
 ghost use Rattle.std.specs.Prelude.{◌≡◌, is_some, OnErr, None};
 ghost use Rattle.std.specs.Result.{result_err};
 ghost use Rattle.calendar.specs.Times.{closed};
+ghost use Rattle.air.specs.Ends.{end_of};
 ghost use Rattle.air.specs.Refusals.{expect_refusal, end_refusal, settled, cleared, answered};
 ghost use Rattle.air.specs.Terminals.{expecting, with_awaited, hear_refusal, hears, heard};
 ghost use Rattle.air.specs.TerminalViews.{terminal_of, tuned, end_within};
@@ -12,7 +13,7 @@ use crate::checks::{check_buffers, check_free, check_grid, check_word};
 use crate::fault::EndFault;
 use crate::parked::Parked;
 use crate::terminal::Terminal;
-use crate::terminal::admission::{check_chain, listen};
+use crate::terminal::admission::{check_block, check_chain, listen};
 use crate::terminal::slot::slot_for;
 use calendar::course::Course;
 use calendar::grant::Grant;
@@ -23,7 +24,7 @@ use std::marker::PhantomData;
 impl Parked {
     // Puts the end on air as a terminal.
     pub fn terminal<S: Stage, P: Point>(self, chain: S) -> Terminal<S, P>
-        ensures { terminal_of S.Stage.meaning result ≡ tuned self (S.Stage.meaning chain) }
+        ensures { terminal_of S.Stage.meaning result ≡ tuned (end_of self) (S.Stage.meaning chain) }
     {
         Terminal {
             end: self,
@@ -44,7 +45,7 @@ impl<S: Stage, P: Point> Terminal<S, P> {
         ensures untouched { OnErr result (self.new ≡ self.old) }
     {
         let course = Course::begin(grant, self.end.time())?;
-        check_free(self.awaited.is_some())?;
+        check_free(self.current().is_some())?;
         check_word(word_length(&self.chain, course), course.output())?;
         check_chain(&self.chain, course)?;
         self.awaited = Some(course);
@@ -70,10 +71,11 @@ impl<S: Stage, P: Point> Terminal<S, P> {
     {
         check_buffers(work, side)?;
         check_grid(grid.len())?;
-        self.check_block(block)?;
-        let slot = slot_for(!self.end.time().is_open(), self.awaited);
+        let awaited = self.current();
+        check_block(awaited, block)?;
+        let slot = slot_for(!self.end.time().is_open(), awaited);
         let bits = listen(grid, self.end.known(), slot)?;
-        let outcome = self.take_in(slot, &bits, work, side, block);
+        let outcome = self.take_in(awaited, slot, &bits, work, side, block);
         clear_both(work, side);
         self.end.step();
         Ok(outcome)
@@ -86,7 +88,7 @@ impl<S: Stage, P: Point> Terminal<S, P> {
         ensures terminal { terminal_of S.Stage.meaning self.new ≡ settled (result_err result) (terminal_of S.Stage.meaning self.old) (with_awaited (terminal_of S.Stage.meaning self.old) None) }
         ensures untouched { OnErr result (self.new ≡ self.old) }
     {
-        self.awaited.ok_or(EndFault::NoGrant)?;
+        self.current().ok_or(EndFault::NoGrant)?;
         self.awaited = None;
         Ok(())
     }
@@ -95,7 +97,7 @@ impl<S: Stage, P: Point> Terminal<S, P> {
 impl<S: Stage + Drop, P: Point> Terminal<S, P> {
     // Takes the end off air, with its identity and time. An awaited grant is dropped.
     pub fn stop(self) -> Parked
-        ensures { result ≡ end_within (terminal_of S.Stage.meaning self) }
+        ensures { end_of result ≡ end_within (terminal_of S.Stage.meaning self) }
     {
         let Terminal { end, .. } = self;
         end

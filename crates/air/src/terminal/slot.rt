@@ -1,4 +1,6 @@
 ghost use Rattle.std.specs.Prelude.{◌≡◌};
+ghost use Rattle.std.specs.Option.{option_map};
+ghost use Rattle.calendar.specs.Courses.{going_of};
 ghost use Rattle.air.specs.TerminalViews.{slot_of};
 
 use calendar::course::Course;
@@ -15,7 +17,7 @@ pub(crate) enum Slot {
 
 // What a subframe is to a terminal, by whether it is closed and by the grant that is awaited.
 pub(crate) fn slot_for(shut: bool, awaited: Option<Course>) -> Slot
-    ensures { result ≡ slot_of shut awaited }
+    ensures { result ≡ slot_of shut (option_map going_of awaited) }
 {
     match awaited {
         _ if shut => Slot::Closed,

@@ -1,19 +1,20 @@
 ghost use Rattle.std.specs.Prelude.{◌≡◌, ◌≤◌};
-ghost use Rattle.calendar.specs.Identities.{known};
+ghost use Rattle.std.specs.Option.{option_map};
+ghost use Rattle.calendar.specs.Identities.{number_of, known};
 
 use crate::identity::Identity;
 
 impl Identity {
     // The identity of a new end.
     pub fn zero() -> Identity
-        ensures { result ≡ 0 }
+        ensures { number_of result ≡ 0 }
     {
         Identity { value: 0 }
     }
 
     // None above 503.
     pub fn new(value: u32) -> Option<Identity>
-        ensures { result ≡ known value }
+        ensures { option_map number_of result ≡ known value }
     {
         if value > 503 {
             return None;
@@ -24,7 +25,7 @@ impl Identity {
     }
 
     pub fn value(self) -> u16
-        ensures value { result ≡ self }
+        ensures value { result ≡ number_of self }
         ensures most { result ≤ 503 }
     {
         self.value

@@ -1,5 +1,6 @@
 ghost use Rattle.std.specs.Prelude.{◌≡◌};
 ghost use Rattle.std.specs.Iterator.{YieldsFirst, item_count};
+ghost use Rattle.calendar.specs.Identities.{number_of};
 ghost use Rattle.grid.specs.Purposes.{among};
 ghost use Rattle.grid.specs.Walk.{places};
 ghost use Rattle.grid.specs.Places.{places_left};
@@ -12,7 +13,7 @@ use calendar::identity::Identity;
 impl Places {
     #[tactic(auto, using(crate::proofs::Elements::among_remainder))]
     pub(crate) fn of(identity: Identity, what: Purpose, end: usize) -> Places
-        ensures { places_left result ≡ places (among what identity) 0 end }
+        ensures { places_left result ≡ places (among what (number_of identity)) 0 end }
     {
         Places {
             shift: Shift::of(identity),

@@ -1,4 +1,5 @@
 ghost use Rattle.std.specs.Prelude.{◌≡◌, ℕ, ◌%◌};
+ghost use Rattle.calendar.specs.Identities.{number_of};
 ghost use Rattle.grid.specs.Purposes.{purpose_of};
 
 use crate::purpose::Purpose;
@@ -7,7 +8,7 @@ use calendar::identity::Identity;
 
 impl Shift {
     pub fn of(identity: Identity) -> Shift
-        ensures { result ≡ identity % 6 }
+        ensures { result.value ≡ number_of identity % 6 }
     {
         Shift {
             value: (identity.value() % 6) as u8,
@@ -16,7 +17,7 @@ impl Shift {
 
     // What the element at a place is for, at every identity of that remainder.
     pub fn purpose(self, place: usize) -> Purpose
-        ensures { (identity : ℕ) → self ≡ identity % 6 → result ≡ purpose_of identity place }
+        ensures { (identity : ℕ) → self.value ≡ identity % 6 → result ≡ purpose_of identity place }
     {
         let start = match place / 12 {
             5 | 12 => self.value,

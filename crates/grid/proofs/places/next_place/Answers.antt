@@ -1,15 +1,23 @@
-use Rattle.std.proofs.Common.{rules, ◌-◌, sym, refl, ◌∙◌}
-use borrow.Author.Tests.{tests}
-use Rattle.std.proofs.lemmas.Iterator.{YieldsList-from_range}
-use Rattle.std.proofs.lemmas.Iterator.Adapters.{option_map_id}
-use Rattle.std.proofs.lemmas.Iterator.Search.{find_from_yields_List}
+use Rattle.std.proofs.Common.{rules, sym, ◌∙◌}
 use Rattle.grid.specs.Purposes.{among}
-use Rattle.grid.proofs.Chosen.{next_place-find}
+use Rattle.grid.proofs.Next.{next_past, next_here, next_on}
 use Rattle.grid.proofs.places.next_place.Goals as goal
 
-pub returns-clause-place : goal.returns-clause-place
+pub returns-then-eq-clause-place : goal.returns-then-eq-clause-place
 unfolding among
-returns-clause-place c = λ id h.
-    sym (option_map_id _)
-    ∙ find_from_yields_List (among c.args.what id) _ _ c.find.result c.find.ensures.ran (YieldsList-from_range c.args.from c.args.end (c.args.end - c.args.from) refl refl) (λ x b q k. search (rules, tests))
-    ∙ sym (next_place-find (among c.args.what id) (c.args.end - c.args.from) c.args.from)
+returns-then-eq-clause-place c = λ id h.
+    let d = among c.args.what id in
+    let p = c.purpose.ensures id h in
+    let q = c.eq.ensures in
+    sym (next_here d _ _ c.loop-place-test.true (search rules)) ∙ c.loop-place.invariant id h
+
+pub loop-place-preserved : goal.loop-place-preserved
+unfolding among
+loop-place-preserved c = λ id h.
+    let d = among c.args.what id in
+    let p = c.purpose.ensures id h in
+    let q = c.eq.ensures in
+    sym (next_on d _ _ c.loop-place-test.true (search rules)) ∙ c.loop-place.invariant id h
+
+pub returns-clause-place : goal.returns-clause-place
+returns-clause-place c = λ id h. sym (next_past (among c.args.what id) _ _ c.loop-place-test.false) ∙ c.loop-place.invariant id h

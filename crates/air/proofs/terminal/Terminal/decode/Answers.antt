@@ -11,7 +11,7 @@ returns-clause-block g c =
     let m = g.S.Stage.meaning self.chain in
     let n = c.length in
     let s = c.round_setting-setting in
-    let fit = and_parts (fits m c.args.course.grant) (mark m c.args.course.grant) (self.covering c.args.course c.requires.awaited) in
+    let fit = and_parts (fits m c.args.course.grant) (mark m c.args.course.grant) c.requires.covered in
     let size = sized m c.args.course.grant fit.0 n.result s.result.output n.ensures.value s.ensures.output in
     let covers : m.covers n.result s.result.output ≡ true = let k = fit.1 in let a = n.ensures.value in let b = s.ensures.output in cc in
     let room = same-room c.args.work.now c.args.side.now c.copy_front.new.to c.args.side.now c.copy_front.auto.to refl c.requires.roomy in

@@ -1,6 +1,8 @@
-use Rattle.std.proofs.Common.{Some, ap}
+use Rattle.std.proofs.Common.{◌≡◌, true, ap, ◌∙◌, rules}
 use Rattle.std.proofs.lemmas.Result.{err_from_is_err_and}
-use Rattle.air.specs.Terminals.{Awaiting, with_awaited}
+use Rattle.calendar.specs.Courses.{going_of, begun}
+use Rattle.air.specs.Fits.{covered}
+use Rattle.air.specs.Terminals.{with_awaited}
 use Rattle.air.specs.TerminalViews.{terminal_of}
 use Rattle.air.proofs.Tested.{expect_stops}
 use Rattle.air.proofs.Parted.{begins}
@@ -15,5 +17,7 @@ pub returns-clause-terminal : goal.returns-clause-terminal
 returns-clause-terminal g c =
     let self = c.args.self.now in
     let t = terminal_of g.S.Stage.meaning self in
-    rw (c.in_ok-course.ensures.accepted, c.time.ensures)
-    (ap (λ (a : Awaiting). with_awaited t (Some a)) (begins self.word c.args.grant t.time))
+    let course = going_of c.in_ok-course.course in
+    let covers : covered t.chain course.grant ≡ true = search rules in
+    let is = c.in_ok-course.ensures.accepted ∙ ap (begun c.args.grant) c.time.ensures in
+    ap (with_awaited t) (begins t.chain self.word course c.args.grant t.time covers is)
