@@ -1,6 +1,7 @@
 -- Bits as points and points as bits, pair by pair.
-use Rattle.std.proofs.Common.{◌≡◌, ℕ, zero, suc, ◌*◌, ◌/◌, ◌<◌, Bool, true, false, List, [], ◌∷◌, length, get_or, map, Some, None, Option, refl, ap, arith}
+use Rattle.std.proofs.Common.{◌≡◌, ℕ, zero, suc, ◌-◌, ◌*◌, ◌/◌, ◌<◌, Bool, true, false, List, [], ◌∷◌, length, take, drop, get_or, map, Some, None, Option, refl, ap, arith}
 use Rattle.std.specs.Simd.{first_chunks}
+use Rattle.std.proofs.lemmas.List.{take_all}
 use Rattle.point.specs.Kinds.{Kind, LawfulKind}
 use Rattle.grid.specs.Pairs.{is_one, bit, points, pair_points, joined, bits_of}
 
@@ -69,3 +70,7 @@ module _ {X : Type 0} (K : Kind X) where
   bits_of_points law (a ∷ b ∷ bs) zero h e = absurd (omega arith)
   bits_of_points law (a ∷ b ∷ bs) (suc n) h e =
       rw (law.own (is_one a) (is_one b), bits_of_points law bs n (omega arith) (λ k l. e (suc (suc k)) (omega arith)), bit_back a (e 0 (omega arith)), bit_back b (e 1 (omega arith)))
+
+-- all of a list from its first element on
+pub from_first : {X : Type 0} (xs : List X) → take (length xs - 0) (drop 0 xs) ≡ xs
+from_first xs = take_all (length xs - 0) xs (omega arith)

@@ -63,7 +63,7 @@ pub fn read_data<P: Point>(grid: &[P], identity: Identity) -> Option<[u8; 320]>
 }
 
 // Puts each pair of bits as its point on the elements of one purpose in rising place, as far as they go.
-#[tactic(auto, using(crate::proofs::Bits::points_of_chunks))]
+#[tactic(auto, using(crate::proofs::Bits::points_of_chunks, crate::proofs::Bits::from_first))]
 fn put_pairs<P: Point>(grid: &mut [P], identity: Identity, what: Purpose, bits: &[u8])
     ensures { grid.new ≡ laid (among what (number_of identity)) 0 grid.old (points P.Point.kind bits.now) }
 {
